@@ -1,0 +1,231 @@
+//! Why a text or a family is refused.
+
+use crate::model::Product;
+use crate::syntax::Span;
+use crate::text::Text;
+use std::alloc::{AllocError, AllocFailed};
+
+/// Memory ran out.
+#[derive(Clone, Copy, Debug, PartialEq, Eq)]
+pub struct NoMemory;
+
+impl From<AllocError> for NoMemory {
+    fn from(_: AllocError) -> NoMemory {
+        NoMemory
+    }
+}
+
+impl<T: Drop> From<AllocFailed<T>> for NoMemory {
+    fn from(_: AllocFailed<T>) -> NoMemory {
+        NoMemory
+    }
+}
+
+/// What is wrong with the input, where, and with which values. A fault without a place speaks of the
+/// whole input.
+#[derive(Drop)]
+pub enum Fault {
+    /// No text of the grammar goes on so.
+    Syntax {
+        at: Option<Span>,
+    },
+    /// The same, and the token is one of SMV that is left out here.
+    LeftOut {
+        at: Option<Span>,
+        word: Text,
+    },
+    /// A numeral, or the interval of an expression, passes 2,147,483,647.
+    WideNumber {
+        at: Option<Span>,
+    },
+    /// An expression nests deeper than 1,000.
+    TooNested {
+        at: Option<Span>,
+    },
+    /// The file is longer than 16,777,216 bytes.
+    TooLong {
+        at: Option<Span>,
+    },
+    /// A name of the input begins with `fsmv_`.
+    ReservedName {
+        at: Option<Span>,
+        name: Text,
+    },
+    /// The feature model declares the feature twice.
+    DuplicateFeature {
+        at: Option<Span>,
+        name: Text,
+    },
+    /// A parent, or a name of a constraint, is not declared earlier.
+    UnknownFeature {
+        at: Option<Span>,
+        name: Text,
+    },
+    /// The feature model declares more than 64 features.
+    TooManyFeatures {
+        at: Option<Span>,
+        count: u64,
+    },
+    /// A second text of one feature.
+    DuplicateText {
+        at: Option<Span>,
+        name: Text,
+    },
+    /// The feature model does not name the feature of a text.
+    FeatureNotInModel {
+        at: Option<Span>,
+        name: Text,
+    },
+    /// The feature model has no valid product.
+    NoProduct {
+        at: Option<Span>,
+    },
+    /// The named set of features is no valid product.
+    NotValid {
+        at: Option<Span>,
+        word: Text,
+    },
+    /// A feature uses a name that is not known in some valid product with the feature.
+    RequireMissing {
+        at: Option<Span>,
+        feature: Text,
+        name: Text,
+        product: Product,
+    },
+    /// A required name has another type, or is no variable.
+    RequireType {
+        at: Option<Span>,
+        feature: Text,
+        name: Text,
+    },
+    /// An introduced name stands already.
+    IntroduceClash {
+        at: Option<Span>,
+        feature: Text,
+        name: Text,
+    },
+    /// A feature introduces an instance.
+    IntroducedInstance {
+        at: Option<Span>,
+        feature: Text,
+        name: Text,
+    },
+    /// A feature assigns what it does not introduce.
+    IntroducedAssign {
+        at: Option<Span>,
+        feature: Text,
+        name: Text,
+    },
+    /// The module declares no variable of this name with a type.
+    ImposeTarget {
+        at: Option<Span>,
+        name: Text,
+    },
+    /// The form of the left side does not fit the assignments that stand.
+    ImposeKind {
+        at: Option<Span>,
+        name: Text,
+    },
+    /// The path is not known in the module, or leads to an instance.
+    TreatTarget {
+        at: Option<Span>,
+        path: Text,
+    },
+    /// A path is neither known nor a symbol.
+    UnknownName {
+        at: Option<Span>,
+        path: Text,
+    },
+    /// An instance of no module, or no `main`.
+    UnknownModule {
+        at: Option<Span>,
+        name: Text,
+    },
+    /// A module's instances lead back to it.
+    RecursiveModule {
+        at: Option<Span>,
+        name: Text,
+    },
+    /// Actuals and formals differ in number, or `main` has formals.
+    ArgumentCount {
+        at: Option<Span>,
+        name: Text,
+    },
+    /// Two modules, declarations, formals or values of one name.
+    DuplicateName {
+        at: Option<Span>,
+        name: Text,
+    },
+    /// A rule of kinds is broken, or an instance stands as a value.
+    KindMismatch {
+        at: Option<Span>,
+    },
+    /// `low` is above `high`.
+    EmptyRange {
+        at: Option<Span>,
+    },
+    /// A dividend may be negative, or a divisor may not be positive.
+    NegativeMod {
+        at: Option<Span>,
+    },
+    /// A choice stands where none may.
+    ChoicePlace {
+        at: Option<Span>,
+    },
+    /// A `next` stands where none may.
+    NextPlace {
+        at: Option<Span>,
+    },
+    /// Two equal left sides, or `x :=` beside `init(x)` or `next(x)`.
+    DoubleAssign {
+        at: Option<Span>,
+        name: Text,
+    },
+    /// A left side names a formal, a definition or an instance.
+    ParameterAssign {
+        at: Option<Span>,
+        name: Text,
+    },
+    /// A definition or formal reads itself through others.
+    CyclicDefine {
+        at: Option<Span>,
+        cycle: Text,
+    },
+    /// More than 65,536 instances, or nodes of the flat lift.
+    TooLarge {
+        at: Option<Span>,
+    },
+    /// There is nothing to prove.
+    NoSpec {
+        at: Option<Span>,
+    },
+    /// The depth costs more than 16,777,216.
+    TooDeep {
+        at: Option<Span>,
+        cost: u64,
+    },
+    /// Memory ran out.
+    NoMemory,
+}
+
+impl From<NoMemory> for Fault {
+    ghost use Rattle.std.specs.Prelude.{◌≡◌};
+    ghost use Rattle.smv_ast.specs.declared.fault.Fault.TheVariants as variants;
+
+    ghost from_gives = { λ _ f. f ≡ variants.NoMemory };
+
+    fn from(_: NoMemory) -> Fault {
+        Fault::NoMemory
+    }
+}
+
+impl From<AllocError> for Fault {
+    ghost use Rattle.std.specs.Prelude.{◌≡◌};
+    ghost use Rattle.smv_ast.specs.declared.fault.Fault.TheVariants as variants;
+
+    ghost from_gives = { λ _ f. f ≡ variants.NoMemory };
+
+    fn from(_: AllocError) -> Fault {
+        Fault::NoMemory
+    }
+}
