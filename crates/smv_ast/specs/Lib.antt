@@ -1,0 +1,2 @@
+pub mod PrintedExpr
+pub mod PrintedProgram

@@ -5,6 +5,7 @@ mod fault;
 mod feature;
 mod model;
 mod program;
+mod printing;
 mod proof;
 mod syntax;
 mod text;
@@ -15,6 +16,7 @@ pub use model::{FeatureModel, GroupKind, Literal, ModelLine, Product};
 pub use program::{
     Assignment, Declaration, Declared, Definition, Left, Module, Program, Section, Skipped,
 };
+pub use printing::print_program;
 pub use proof::{Edge, Id, Proof};
 pub use sqlite_items::{Boxed, Items as List};
 pub use syntax::{Branch, Choice, Expr, Op, Path, SmvType, Span};
