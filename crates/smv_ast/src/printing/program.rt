@@ -4,10 +4,16 @@ ghost use Rattle.std.specs.Prelude.{◌≡◌, ◌++◌, IfOk, OnOk, string_byte
 ghost use Rattle.std.specs.Fmt.{signed_decimal};
 ghost use Rattle.smv_ast.specs.PrintedExpr as expr;
 ghost use Rattle.smv_ast.specs.PrintedProgram as spec;
+ghost use Rattle.smv_ast.specs.Places.{SameProgram};
+ghost use Rattle.smv_ast.specs.declared.program.Program.{Program};
 
 use crate::fault::NoMemory;
-use crate::printing::expr::{print_expr, print_joined, print_listed, print_range, print_signed, print_text};
-use crate::program::{Assignment, Declaration, Declared, Definition, Left, Module, Program, Section};
+use crate::printing::expr::{
+    print_expr, print_joined, print_listed, print_range, print_signed, print_text,
+};
+use crate::program::{
+    Assignment, Declaration, Declared, Definition, Left, Module, Program, Section,
+};
 use crate::syntax::{Expr, SmvType};
 use crate::text::Text;
 use std::alloc::{AllocError, Global};
@@ -184,7 +190,7 @@ fn print_sections(out: &mut String, sections: &[Section]) -> Result<(), AllocErr
 }
 
 fn print_module(out: &mut String, module: &Module) -> Result<(), AllocError>
-    ensures { OnOk result (string_bytes out.new ≡ string_bytes out.old ++ spec.printed_module module.now) }
+    ensures { OnOk result (string_bytes out.new ≡ string_bytes out.old ++ spec.printed_module «module».now) }
 {
     out.push_str("MODULE ")?;
     print_text(out, &module.name)?;
@@ -203,9 +209,13 @@ fn print_modules(out: &mut String, modules: &[Module]) -> Result<(), AllocError>
     Ok(())
 }
 
-/// The canonical text of a model. Its only error is want of memory.
+/// The canonical text of a model: its modules one after another, each line ended by a line feed.
+///
+/// The text depends on no place. The only error is want of memory.
 pub fn print_program(alloc: Global, program: &Program) -> Result<String, NoMemory>
     ensures text { IfOk result (λ text. string_bytes text ≡ spec.printed_program program.now) }
+    ensures places_aside { IfOk result (λ text. (other : Program) →
+        SameProgram program.now other → string_bytes text ≡ spec.printed_program other) }
 {
     let mut out = String::new(alloc);
     print_modules(&mut out, program.modules.as_slice())?;
