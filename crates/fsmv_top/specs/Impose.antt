@@ -1,0 +1,120 @@
+-- Applying one IMPOSE to a module: `IF c THEN IMPOSE next(x) := e` makes `next(x)` the value of `e` where `c` is true,
+-- and leaves it as it was elsewhere.
+use Rattle.std.specs.Prelude.{ℕ, ◌+◌, Bool, true, false, ◌&&◌, not, List, [], ◌∷◌, ◌++◌, Option, Some, None, if◌then◌else◌, map, find, codes, ℤ, pos, negsuc, min, ◌-◌, ◌^◌}
+use Rattle.std.specs.List.{list_any}
+use Rattle.std.specs.Option.{option_and_then}
+use Rattle.std.specs.Str.{bytes_eq}
+use denote.Enum.Bare.{sameb}
+use Rattle.smv_ast.specs.contracts.program.Left.{the_type}
+use Rattle.smv_ast.specs.declared.syntax.Span.{Span}
+use Rattle.smv_ast.specs.declared.syntax.SmvType.{SmvType}
+use Rattle.smv_ast.specs.declared.syntax.SmvType.TheVariants as type
+use Rattle.smv_ast.specs.declared.syntax.Expr.{Expr}
+use Rattle.smv_ast.specs.declared.syntax.Expr.TheVariants as expr
+use Rattle.smv_ast.specs.declared.syntax.Choice.{Choice}
+use Rattle.smv_ast.specs.declared.syntax.Choice.TheVariants as choice
+use Rattle.smv_ast.specs.declared.syntax.Branch.{Branch, roll-Branch}
+use Rattle.smv_ast.specs.declared.program.Left.{Left}
+use Rattle.smv_ast.specs.declared.program.Declared.{Declared}
+use Rattle.smv_ast.specs.declared.program.Declared.TheVariants.{Plain, Instance}
+use Rattle.smv_ast.specs.declared.program.Assignment.{Assignment}
+use Rattle.smv_ast.specs.declared.program.Section.{Section}
+use Rattle.smv_ast.specs.declared.program.Section.TheVariants as section
+use Rattle.smv_ast.specs.declared.program.Module.{Module}
+use Rattle.smv_ast.specs.declared.program.Program.{Program}
+use Rattle.smv_ast.specs.declared.feature.Action.{Action}
+use Rattle.smv_ast.specs.declared.feature.Action.TheVariants.{Impose, Treat}
+use Rattle.smv_ast.specs.declared.feature.Change.{Change}
+use Rattle.fsmv_top.specs.declared.integration.impose.Imposed.{Imposed}
+use Rattle.fsmv_top.specs.Lists.{change_first}
+use Rattle.fsmv_top.specs.UsedNames.{declarations}
+
+-- ---- where an assignment stands
+
+-- `case c : e; TRUE : old; esac`
+abbrev pub guarded : Expr → Expr → Expr → Expr
+guarded cond value old = expr.Cases (roll-Branch (record { cond = cond; value = value }) ∷ roll-Branch (record { cond = expr.True; value = old }) ∷ [])
+
+unfoldable pub same_left : Left → Left → Bool
+same_left = sameb the_type
+
+-- an assignment of this left side
+abbrev pub has_left : Left → List ℕ → Assignment → Bool
+has_left left name a = same_left a.left left && bytes_eq a.name name
+
+abbrev pub guarded_assignment : Imposed → Assignment → Assignment
+guarded_assignment i a = record a { right = guarded i.cond i.right a.right }
+
+-- whether the section has an assignment of this left side
+abbrev pub assigns : Left → List ℕ → Section → Bool
+assigns left name (section.Assigns assignments) = list_any (has_left left name) assignments
+assigns left name s = false
+
+-- the section with its first assignment of the left side guarded
+abbrev pub guarded_section : Imposed → Section → Section
+guarded_section i (section.Assigns assignments) = section.Assigns (change_first (has_left i.left i.name) (guarded_assignment i) assignments)
+guarded_section i s = s
+
+-- ---- where none stands
+
+abbrev pub number : ℤ → Expr
+number (pos n) = expr.Number (min n (2 ^ 32 - 1))
+number (negsuc n) = expr.Neg (expr.Number (min (n + 1) (2 ^ 32 - 1)))
+
+abbrev pub symbol : Span → List ℕ → Expr
+symbol at name = expr.Name (record { names = name ∷ []; at = at })
+
+-- the set of all values of a type
+abbrev pub all_values : Span → SmvType → Choice
+all_values at type.Boolean = choice.Each (expr.False ∷ expr.True ∷ [])
+all_values at (type.Range low high) = choice.Between low high
+all_values at (type.Numbers numbers) = choice.Each (map number numbers)
+all_values at (type.Symbols names) = choice.Each (map (symbol at) names)
+
+-- the type of a variable: that of its first declaration
+abbrev pub plain_type : Declared → Option SmvType
+plain_type (Plain t) = Some t
+plain_type (Instance name actuals) = None
+
+abbrev pub is_assigns : Section → Bool
+is_assigns (section.Assigns assignments) = true
+is_assigns s = false
+
+abbrev pub one_more : Section → Assignment → Section
+one_more (section.Assigns assignments) a = section.Assigns (assignments ++ a ∷ [])
+one_more s a = s
+
+-- an assignment more: at the end of the last ASSIGN section, or in one of its own behind all others
+abbrev pub with_assignment : List Section → Assignment → List Section
+with_assignment [] a = section.Assigns (a ∷ []) ∷ []
+with_assignment (s ∷ more) a = if is_assigns s && not (list_any is_assigns more) then one_more s a ∷ more else s ∷ with_assignment more a
+
+-- an assignment that keeps one of these values where the condition is false
+abbrev pub kept_assignment : Imposed → Choice → Assignment
+kept_assignment i values = record { left = i.left; name = i.name; right = guarded i.cond i.right (expr.Pick values); at = i.at }
+
+abbrev pub with_new : Imposed → List Section → Option SmvType → List Section
+with_new i sections None = sections
+with_new i sections (Some t) = with_assignment sections (kept_assignment i (all_values i.at t))
+
+abbrev pub type_of : List ℕ → List Section → Option SmvType
+type_of name sections = option_and_then (λ d. plain_type d.what) (find (λ d. bytes_eq name d.name) (declarations sections))
+
+-- ---- the whole of it
+
+-- The first assignment of the left side is guarded. Where there is none, one is made, which keeps any value of the type
+-- where the condition is false.
+abbrev pub imposed_on : Imposed → List Section → List Section
+imposed_on i sections =
+    if list_any (assigns i.left i.name) sections then change_first (assigns i.left i.name) (guarded_section i) sections
+    else with_new i sections (type_of i.name sections)
+
+abbrev pub imposed_in : Imposed → Module → Module
+imposed_in i m = record m { sections = imposed_on i m.sections }
+
+abbrev pub is_named : List ℕ → Module → Bool
+is_named name m = bytes_eq name m.name
+
+-- the model with the IMPOSE applied to the module of this name
+abbrev pub imposed : Imposed → List ℕ → Program → Program
+imposed i name p = record p { modules = change_first (is_named name) (imposed_in i) p.modules }

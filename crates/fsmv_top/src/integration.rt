@@ -1,0 +1,5 @@
+//! Applying a feature to a model.
+
+mod impose;
+mod lists;
+mod names;
