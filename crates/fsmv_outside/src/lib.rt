@@ -2,11 +2,16 @@
 //! that a test asks for.
 #![tactic(auto)]
 
+mod count;
 mod files;
+mod listing;
+mod memory;
+mod plan;
 mod sink;
 
 #[cfg(test)]
 mod tests;
 
 pub use files::{Files, FilesFault};
+pub use memory::{MemoryFiles, MemorySink};
 pub use sink::{Sink, SinkFault};

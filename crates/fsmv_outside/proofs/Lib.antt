@@ -1,0 +1,2 @@
+pub mod FileLookup
+pub mod WrittenText
