@@ -26,6 +26,6 @@ pub content_of_short : (files : List File) (name : List ℕ) → IfSome (content
 content_of_short [] name = tt
 content_of_short (file ∷ files) name =
     elim (bytes_eq (string_bytes file.0) name) as (λ same. IfSome (if same then Some file.1.items else content_of (listed files) name) (λ content. length content < 2 ^ 63)) [
-      true ↦ let in_vector : length file.1.items < 2 ^ 63 = omega (arith, file.1.ok, file.1.small) in in_vector
-    | false ↦ content_of_short files name
+      | true ↦ let in_vector : length file.1.items < 2 ^ 63 = omega (arith, file.1.ok, file.1.small) in in_vector
+      | false ↦ content_of_short files name
     ]

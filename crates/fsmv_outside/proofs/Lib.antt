@@ -1,2 +1,3 @@
 pub mod FileLookup
+pub mod KnownBytes
 pub mod WrittenText

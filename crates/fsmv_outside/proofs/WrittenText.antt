@@ -32,7 +32,7 @@ WritesFront_more before between after first second whole front = record {
       front.written
       ∙ ap (λ text. with_piece text (take front.count second)) whole
       ∙ with_piece_more before first (take front.count second)
-      ∙ ap (with_piece before) (sym (take-append-add first second front.count))
+      ∙ ap (with_piece before) (sym (take-append-add first second front.count));
 }
 
 -- some front of the first piece was written, and nothing more
@@ -42,5 +42,5 @@ WritesFront_longer before after first second front = record {
   written =
       let within : min front.count (length first) ≤ length first = omega arith in
       front.written
-      ∙ ap (with_piece before) (sym (take-append-le (min front.count (length first)) first second within ∙ take_min front.count first))
+      ∙ ap (with_piece before) (sym (take-append-le (min front.count (length first)) first second within ∙ take_min front.count first));
 }

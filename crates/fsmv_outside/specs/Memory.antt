@@ -1,5 +1,6 @@
 -- Files and a sink that are kept in memory.
 use Rattle.std.specs.Prelude.{ℕ, Bool, true, false, List, [], ◌∷◌, map, Option, Some, None, Result, Ok, Err, if◌then◌else◌, String, string_bytes}
+use Rattle.std.specs.Option.{unwrap_or}
 use Rattle.std.specs.Str.{bytes_eq}
 use Rattle.std.specs.Global.{Vec}
 use Rattle.std.specs.declared.alloc.Global.{Global}
@@ -17,6 +18,10 @@ Entry = List ℕ × List ℕ
 abbrev pub content_of : List Entry → List ℕ → Option (List ℕ)
 content_of [] name = None
 content_of (entry ∷ entries) name = if bytes_eq entry.0 name then Some entry.1 else content_of entries name
+
+-- what the first file of the name holds; a name that is not held is an empty file
+abbrev pub content_or_empty : List Entry → List ℕ → List ℕ
+content_or_empty entries name = unwrap_or (content_of entries name) []
 
 -- the files as names and contents
 abbrev pub listed : List (String Global × Vec ℕ) → List Entry

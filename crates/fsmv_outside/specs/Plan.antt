@@ -26,5 +26,5 @@ IsToFail plan = Contains plan.failing (next_call plan)
 abbrev pub after_call : Plan → Bool → Plan
 after_call plan failed = record plan {
   calls = next_call plan;
-  faults = if failed then counted plan.faults else plan.faults
+  faults = if failed then counted plan.faults else plan.faults;
 }

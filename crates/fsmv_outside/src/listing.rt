@@ -2,7 +2,7 @@
 
 ghost use Rattle.std.specs.Prelude.{◌≡◌, ◌≢◌, ◌↔◌, ◌^◌, ◌<◌, ◌++◌, length, OnOk, OnErr, IfSome};
 ghost use Rattle.std.specs.Option.{option_copied};
-ghost use Rattle.fsmv_outside.specs.Memory.{content_of, listed};
+ghost use Rattle.fsmv_outside.specs.Memory.{content_of, content_or_empty, listed};
 
 use crate::files::FilesFault;
 
@@ -19,12 +19,15 @@ pub(crate) fn find_file<'a>(files: &'a [(String, Vec<u8>)], name: &str) -> Optio
     None
 }
 
+/// The same, where a name that is not held is an empty file.
+pub(crate) fn find_file_or_empty<'a>(files: &'a [(String, Vec<u8>)], name: &str) -> &'a [u8]
+    ensures first { result.now ≡ content_or_empty (listed files.now) name.now }
+{
+    find_file(files, name).unwrap_or(&[])
+}
+
 /// Appends a file's content, if it has at most `most` bytes.
-pub(crate) fn append_file(
-    content: &[u8],
-    most: u64,
-    into: &mut Vec<u8>,
-) -> Result<(), FilesFault>
+pub(crate) fn append_file(content: &[u8], most: u64, into: &mut Vec<u8>) -> Result<(), FilesFault>
     ensures ok { OnOk result (into.new.items ≡ into.old.items ++ content.now) }
     ensures refused { OnErr result (into.new.items ≡ into.old.items) }
     ensures too_long { (result ≡ Err FilesFault.TooLong) ↔ (most < length content.now) }

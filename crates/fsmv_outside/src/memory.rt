@@ -124,8 +124,9 @@ impl Sink for MemorySink {
     fn put(&mut self, piece: &[u8]) -> Result<(), SinkFault>
         ensures fails { (result ≡ Err SinkFault.Failed) ↔ IsToFail self.old.plan }
         ensures counts { self.new ≡ record self.old {
-            content = (if is_ok result then self.old.content ++ piece.now else self.old.content);
-            plan = after_call self.old.plan (put_failed result) } }
+          content = (if is_ok result then self.old.content ++ piece.now else self.old.content);
+          plan = after_call self.old.plan (put_failed result);
+        } }
         ensures faults_never_fall { self.old.plan.faults ≤ self.new.plan.faults }
         ensures refused { OnErr result
             (WritesFront (Some self.old.content) (Some self.new.content) piece.now) }

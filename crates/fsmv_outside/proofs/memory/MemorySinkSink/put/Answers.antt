@@ -7,5 +7,5 @@ pub returns-in_err-extend_from_slice-clause-refused :
     goal.returns-in_err-extend_from_slice-clause-refused
 returns-in_err-extend_from_slice-clause-refused c =
     let unchanged : Some c.extend_from_slice.new.self.items ≡ Some c.args.self.now.content =
-        ap Some c.in_err-extend_from_slice.ensures.items ∙ ap (λ sink. Some sink.content) c.self.view_is in
+    ap Some c.in_err-extend_from_slice.ensures.items ∙ ap (λ sink. Some sink.content) c.self.view_is in
     MatchResult-from_err _ _ _ c.from_residual.ensures.0 (λ _. WritesFront_none _ _ _ unchanged)
