@@ -1,6 +1,7 @@
 //! Files of the machine.
 
-ghost use Rattle.std.specs.Prelude.{◌≡◌, ◌≢◌, ℕ, ◌-◌, ◌^◌, ◌<◌, ◌≤◌, None, true, length, take, vec_len, is_ok, if◌then◌else◌, IfOk, IfSome, OnOk, OnErr};
+ghost use Rattle.std.specs.Prelude.{◌≡◌, ◌≢◌, ◌↔◌, ℕ, ◌-◌, ◌^◌, ◌<◌, ◌≤◌, None, true, length, take, vec_len, is_ok, if◌then◌else◌, IfOk, IfSome, OnOk, OnErr};
+ghost use Rattle.std.specs.IoError.{error_kind};
 ghost use Rattle.std.specs.Io.{ReadsAtMost, StartsWith};
 ghost use Rattle.std.specs.Io.KnownBytes.{Consumes, IsAtEnd};
 ghost use Rattle.fsmv_outside.specs.Count.{counted, Rose};
@@ -89,7 +90,11 @@ fn read_file<R: MachineFiles>(
 const PIECE: usize = 4096;
 
 /// Appends what the file has left. At a refusal some of it may have been appended.
-fn read_to_end<F: Read>(file: &mut F, most: u64, into: &mut Vec<u8>) -> Result<(), FilesFault>
+pub(crate) fn read_to_end<F: Read>(
+    file: &mut F,
+    most: u64,
+    into: &mut Vec<u8>,
+) -> Result<(), FilesFault>
     ensures kept { StartsWith into.new.items into.old.items }
     ensures ok { OnOk result
         (AppendsFile (F.remaining file.old) most into.old.items into.new.items) }
@@ -130,8 +135,10 @@ fn read_piece<F: Read>(file: &mut F, piece: &mut [u8]) -> Result<usize, FilesFau
     Err(FilesFault::Failed)
 }
 
+/// Want of memory, or a failed read.
 fn fault_of(error: &io::Error) -> FilesFault
-    ensures { result ≢ FilesFault.TooLong }
+    ensures no_memory { (result ≡ FilesFault.NoMemory) ↔ (error_kind error.now ≡ ErrorKind.OutOfMemory) }
+    ensures never_too_long { result ≢ FilesFault.TooLong }
 {
     if error.kind() == ErrorKind::OutOfMemory {
         FilesFault::NoMemory

@@ -1,6 +1,7 @@
 //! Standard output.
 
-ghost use Rattle.std.specs.Prelude.{◌≡◌, ◌≤◌, ◌<◌, None, take, is_ok, if◌then◌else◌, IfOk, OnOk, OnErr};
+ghost use Rattle.std.specs.Prelude.{◌≡◌, ◌↔◌, ℕ, ◌≤◌, ◌<◌, None, take, is_ok, if◌then◌else◌, IfOk, OnOk, OnErr};
+ghost use Rattle.std.specs.IoError.{error_kind};
 ghost use Rattle.std.specs.Io.{WritesAtMost};
 ghost use Rattle.std.specs.Io.KnownBytes.{Appends, Keeps};
 ghost use Rattle.fsmv_outside.specs.Count.{counted, Rose};
@@ -58,9 +59,12 @@ impl<R: Print> Sink for StandardOut<'_, R> {
     }
 }
 
-/// Writes the whole piece. A write that takes nothing is a fault.
-fn write_whole<W: Write>(out: &mut W, piece: &[u8]) -> Result<(), SinkFault>
+/// Writes the whole piece. A write that takes nothing is a fault. At a refusal some first
+/// bytes of the piece may have been written.
+pub(crate) fn write_whole<W: Write>(out: &mut W, piece: &[u8]) -> Result<(), SinkFault>
     ensures ok { OnOk result (Appends (W.contents out.old) (W.contents out.new) piece.now) }
+    ensures refused { OnErr result ((count : ℕ) ×
+        Appends (W.contents out.old) (W.contents out.new) (take count piece.now)) }
 {
     let mut rest = piece;
     while !rest.is_empty() {
@@ -90,7 +94,10 @@ fn write_some<W: Write>(out: &mut W, piece: &[u8]) -> Result<usize, SinkFault>
     Err(SinkFault::Failed)
 }
 
-fn fault_of(error: &io::Error) -> SinkFault {
+/// Want of memory, or a failed write.
+fn fault_of(error: &io::Error) -> SinkFault
+    ensures { (result ≡ SinkFault.NoMemory) ↔ (error_kind error.now ≡ ErrorKind.OutOfMemory) }
+{
     if error.kind() == ErrorKind::OutOfMemory {
         SinkFault::NoMemory
     } else {

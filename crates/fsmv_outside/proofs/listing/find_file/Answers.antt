@@ -1,4 +1,4 @@
-use Rattle.std.proofs.Common.{◌∙◌, sym, ap, arith, ◌≡◌, ◌<◌, true, false, length, [], drop}
+use Rattle.std.proofs.Common.{◌∙◌, sym, arith, ◌≡◌, ◌<◌, true, false, length}
 use Rattle.std.proofs.Math.ListN.{drop_of_length-le}
 use Rattle.std.specs.Prelude.{string_bytes}
 use Rattle.std.specs.Str.{bytes_eq}
