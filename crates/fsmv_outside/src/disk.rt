@@ -87,6 +87,7 @@ fn read_file<R: MachineFiles>(
     }
 }
 
+/// How many bytes one read asks for.
 const PIECE: usize = 4096;
 
 /// Appends what the file has left. At a refusal some of it may have been appended.
