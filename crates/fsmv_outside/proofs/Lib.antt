@@ -1,0 +1,3 @@
+pub mod FileLookup
+pub mod KnownBytes
+pub mod WrittenText
