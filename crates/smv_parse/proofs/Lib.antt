@@ -1,0 +1,6 @@
+pub mod Lexemes
+pub mod Spellings
+pub mod Cutting
+pub mod NextToken
+pub mod Sets
+pub mod Rules

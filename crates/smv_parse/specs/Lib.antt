@@ -1,0 +1,4 @@
+pub mod Lexicon
+pub mod Language
+pub mod Reading
+pub mod Ahead
