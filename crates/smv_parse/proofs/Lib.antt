@@ -4,3 +4,5 @@ pub mod Cutting
 pub mod NextToken
 pub mod Sets
 pub mod Rules
+pub mod Turns
+pub mod Words
