@@ -1,6 +1,5 @@
 -- The tokens of a text: first that of the lexeme at its front, then those behind it.
-use Rattle.std.proofs.Common.{◌≡◌, ℕ, zero, suc, ◌+◌, ◌-◌, ◌≤◌, ◌<◌, List, [], ◌∷◌, length, take, drop, refl, sym, ◌∙◌, ap, subst, arith, Bool, true, false, cond}
-use Rattle.smv_ast.specs.declared.syntax.Span.{Span}
+use Rattle.std.proofs.Common.{◌≡◌, ℕ, zero, suc, ◌+◌, ◌-◌, ◌<◌, [], ◌∷◌, length, take, drop, refl, sym, ◌∙◌, ap, subst, arith, Bool, true, false, cond}
 use Rattle.smv_parse.specs.declared.kind.Kind.TheVariants as k
 use Rattle.smv_parse.specs.declared.lexeme.Lexeme.{Lexeme}
 use Rattle.smv_parse.specs.Lexicon.{Bytes, Token, first_lexeme, same_kind, tokens_from, tokens_in}

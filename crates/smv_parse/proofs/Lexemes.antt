@@ -1,16 +1,15 @@
 -- Facts about what stands at the front of a text.
-use Rattle.std.proofs.Common.{◌≡◌, ℕ, zero, suc, ◌+◌, ◌-◌, ◌≤◌, ◌<◌, Bool, true, false, ◌&&◌, ◌||◌, List, [], ◌∷◌, length, take, take_while, refl, sym, ◌∙◌, ap, subst, arith, cond}
-use Rattle.std.specs.Prelude.{nat_eq, not, All, codes, ◌==◌}
-use Rattle.std.specs.List.{starts_with, prefix_len}
+use Rattle.std.proofs.Common.{◌≡◌, ℕ, ◌≤◌, ◌<◌, Bool, true, false, ◌||◌, List, [], ◌∷◌, length, take, take_while, refl, sym, ap, subst, arith, cond}
+use Rattle.std.specs.Prelude.{nat_eq, codes, ◌==◌}
+use Rattle.std.specs.List.{starts_with}
 use Rattle.std.specs.Cmp.Lexicographic.{same_text}
-use Rattle.std.proofs.lemmas.Bool.Decides.{nat_tests}
 use Rattle.std.proofs.lemmas.List.{length-take}
 use Rattle.std.proofs.lemmas.List.Folds.{length-prefix_len}
 use Rattle.std.proofs.lemmas.List.Sums.{prefix_len-le-length, take_while-cons}
 use Rattle.smv_parse.specs.declared.kind.Kind.{Kind}
 use Rattle.smv_parse.specs.declared.kind.Kind.TheVariants as k
 use Rattle.smv_parse.specs.declared.lexeme.Lexeme.{Lexeme}
-use Rattle.smv_parse.specs.Lexicon.{Bytes, is_blank, is_letter, is_digit, is_name_part, is_in_line, words, marks, find_word, find_mark, word_lexeme, numeral_kind, numeral_lexeme, mark_lexeme, begins_comment, first_lexeme, same_kind}
+use Rattle.smv_parse.specs.Lexicon.{Bytes, is_blank, is_letter, is_digit, is_name_part, is_in_line, marks, find_mark, word_lexeme, numeral_lexeme, mark_lexeme, begins_comment, first_lexeme}
 
 -- what holds in both cases of a test
 pub by_test : {A : Type 0} (P : A → Type 0) (test : Bool) (x y : A) → (test ≡ true → P x) → (test ≡ false → P y) → P (cond test x y)

@@ -6,3 +6,8 @@ pub mod Sets
 pub mod Rules
 pub mod Turns
 pub mod Words
+pub mod ExpressionRules
+pub mod SectionRules
+pub mod Endings
+pub mod Places
+pub mod Answering

@@ -1,14 +1,14 @@
 -- What a cursor's methods say of its next token.
-use Rattle.std.proofs.Common.{◌≡◌, ℕ, ◌+◌, ◌<◌, ◌^◌, Bool, true, false, ◌||◌, List, [], ◌∷◌, length, take, drop, Option, Some, None, refl, sym, ◌∙◌, ap, subst, arith, rules, cond}
+use Rattle.std.proofs.Common.{◌≡◌, ◌+◌, ◌<◌, Bool, true, false, ◌||◌, List, [], ◌∷◌, take, drop, Option, Some, None, refl, sym, ◌∙◌, ap, subst, rules, cond}
 use Rattle.std.specs.Prelude.{option_map, IsSome, IsTrue, ◌↔◌, is_some, not, All}
 use Rattle.smv_parse.specs.declared.kind.Kind.{Kind}
 use Rattle.smv_parse.specs.declared.kind.Kind.TheVariants as k
 use Rattle.smv_parse.specs.declared.lexeme.Lexeme.{Lexeme}
 use Rattle.smv_parse.specs.declared.cursor.Cursor.TheInside.{Inside}
 use Rattle.smv_parse.specs.Ahead.{tokens_left, IsReady, IsNext}
-use Rattle.smv_parse.specs.Lexicon.{Bytes, Token, IsNumeral, first_lexeme, same_kind, tokens_from}
+use Rattle.smv_parse.specs.Lexicon.{Bytes, Token, IsNumeral, same_kind, tokens_from}
 use Rattle.smv_parse.specs.Language.{Tokens, begins, has, kinds_of, find_kind, of_kind, next_of, kind_of}
-use Rattle.smv_parse.specs.Reading.{Outcome, read_if, read_leaf, read_one_of}
+use Rattle.smv_parse.specs.Reading.{read_if, read_leaf, read_one_of}
 use Rattle.smv_parse.specs.Reading.Outcome.{Read, Stop}
 use Rattle.smv_parse.specs.Reading.Cause.{Misfit}
 use Rattle.smv_parse.proofs.Lexemes.{Fits}

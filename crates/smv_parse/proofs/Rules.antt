@@ -1,10 +1,10 @@
 -- What a reader owes to its language, and that each way to put readers together keeps it. Nothing here speaks of
 -- a grammar: the readers of other texts are proved by the same rules.
-use Rattle.std.proofs.Common.{◌≡◌, ℕ, zero, suc, ◌+◌, ◌≤◌, ◌<◌, Bool, true, false, ◌||◌, List, [], ◌∷◌, ◌++◌, length, Option, Some, None, refl, sym, ◌∙◌, ap, subst, append_assoc, arith, fold, length-append, inl, inr, ◌⊎◌, cond}
+use Rattle.std.proofs.Common.{◌≡◌, ℕ, zero, suc, ◌+◌, ◌≤◌, Bool, true, false, List, [], ◌∷◌, ◌++◌, length, Option, Some, None, refl, sym, ◌∙◌, ap, subst, append_assoc, arith, length-append, inl, inr, cond}
 use Rattle.smv_parse.specs.declared.kind.Kind.{Kind}
 use Rattle.smv_parse.specs.Lexicon.{Token}
 use Rattle.smv_parse.specs.Language.{Tokens, leaf, dep, both, many, either, made, nothing, begins, has, next_of}
-use Rattle.smv_parse.specs.Reading.{Cause, Outcome, Reader, and_then, read_if, read_leaf, read_dep, read_both, read_made, read_either, read_nothing, read_turns, read_fold}
+use Rattle.smv_parse.specs.Reading.{Cause, Outcome, Reader, and_then, read_if, read_leaf, read_dep, read_both, read_made, read_either, read_nothing}
 use Rattle.smv_parse.specs.Reading.Outcome.{Read, Stop}
 use Rattle.smv_parse.specs.Reading.Cause.{Misfit}
 

@@ -1,5 +1,5 @@
 -- Sets of kinds, compared by computing.
-use Rattle.std.proofs.Common.{◌≡◌, Bool, true, false, ◌||◌, ◌&&◌, List, [], ◌∷◌, ◌++◌, refl, sym, ◌∙◌, ap, subst}
+use Rattle.std.proofs.Common.{◌≡◌, Bool, true, false, ◌||◌, ◌&&◌, List, [], ◌∷◌, refl, sym, subst}
 use Rattle.std.specs.Prelude.{not}
 use denote.Enum.Bare.{same_true, true_same}
 use Rattle.smv_parse.specs.contracts.kind.Kind.{the_type}

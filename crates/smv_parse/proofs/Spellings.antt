@@ -1,15 +1,13 @@
 -- What the spelling of a token is made of.
-use Rattle.std.proofs.Common.{◌≡◌, ℕ, zero, suc, ◌+◌, ◌-◌, ◌≤◌, ◌<◌, Bool, true, false, ◌&&◌, ◌||◌, List, [], ◌∷◌, length, take, take_while, refl, sym, ◌∙◌, ap, subst, arith, cond, get_or}
-use Rattle.std.specs.Prelude.{nat_eq, nat_le, not, All}
+use Rattle.std.proofs.Common.{◌≡◌, ℕ, zero, suc, ◌≤◌, ◌<◌, Bool, true, false, ◌&&◌, List, [], ◌∷◌, length, take, take_while, refl, sym, ap, subst, arith}
+use Rattle.std.specs.Prelude.{nat_le, not, All}
 use Rattle.std.proofs.lemmas.Bool.Decides.{nat_tests}
 use Rattle.std.proofs.lemmas.List.Folds.{length-prefix_len}
 use Rattle.std.proofs.lemmas.List.Sums.{take_while-cons}
-use denote.Enum.Bare.{same_true}
-use Rattle.smv_parse.specs.contracts.kind.Kind.{the_type}
 use Rattle.smv_parse.specs.declared.kind.Kind.{Kind}
 use Rattle.smv_parse.specs.declared.kind.Kind.TheVariants as k
 use Rattle.smv_parse.specs.declared.lexeme.Lexeme.{Lexeme}
-use Rattle.smv_parse.specs.Lexicon.{Bytes, is_blank, is_letter, is_digit, is_name_part, is_in_line, words, marks, find_word, find_mark, word_lexeme, numeral_kind, numeral_lexeme, mark_lexeme, begins_comment, first_lexeme, same_kind, IsNumeral}
+use Rattle.smv_parse.specs.Lexicon.{Bytes, is_blank, is_letter, is_digit, is_name_part, words, marks, find_word, find_mark, word_lexeme, numeral_kind, numeral_lexeme, mark_lexeme, begins_comment, first_lexeme, same_kind, IsNumeral}
 use Rattle.smv_parse.proofs.Lexemes.{by_test}
 
 -- ---- a run of bytes

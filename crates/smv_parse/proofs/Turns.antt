@@ -1,8 +1,8 @@
 -- Loops: their turns one by one, and gathered into a list.
-use Rattle.std.proofs.Common.{◌≡◌, ℕ, zero, suc, ◌+◌, ◌≤◌, ◌<◌, Bool, true, false, List, [], ◌∷◌, ◌++◌, length, fold, refl, sym, ◌∙◌, ap, subst, arith, append_assoc, append-nil, length-append, cond}
+use Rattle.std.proofs.Common.{◌≡◌, ℕ, zero, suc, ◌≤◌, ◌<◌, Bool, true, false, List, [], ◌∷◌, ◌++◌, length, fold, refl, sym, ◌∙◌, ap, subst, arith, append_assoc, append-nil, length-append, cond}
 use Rattle.smv_parse.specs.declared.kind.Kind.{Kind}
 use Rattle.smv_parse.specs.Language.{Tokens, begins}
-use Rattle.smv_parse.specs.Reading.{Cause, Outcome, Reader, and_then, read_turns, read_fold, pushed}
+use Rattle.smv_parse.specs.Reading.{Outcome, Reader, and_then, read_turns, read_fold, pushed}
 use Rattle.smv_parse.specs.Reading.Outcome.{Read, Stop}
 use Rattle.smv_parse.proofs.Rules.{Good, Took, Rule, Starts, read_list_to, read_list}
 
@@ -49,15 +49,10 @@ module _ {A B : Type 0} (set : List Kind) (p : Reader A) (step : B → A → B) 
   unrolled (suc n) b ts e h = ap (λ v. cond v (and_then (p ts) (λ a rest. read_turns n set p step (step b a) rest)) (Read b ts)) h
       ∙ then_same (p ts) _ _ (λ a rest r. let less = c.less ts a rest r in enough n (length rest) (step b a) rest (omega (arith, less)) (omega arith))
 
-  -- a turn that reads
-  pub turn_read : (b : B) (a : A) (ts rest : Tokens) → begins set ts ≡ true → p ts ≡ Read a rest → read_fold set p step b ts ≡ read_fold set p step (step b a) rest
+  -- a turn, and then the others
+  pub one_turn : (b : B) (ts : Tokens) → begins set ts ≡ true → read_fold set p step b ts ≡ and_then (p ts) (λ a rest. read_fold set p step (step b a) rest)
   unfolding read_fold
-  turn_read b a ts rest h e = unrolled (length ts) b ts refl h ∙ ap (λ o. and_then o (λ a' rest'. read_turns (length rest') set p step (step b a') rest')) e
-
-  -- a turn that stops
-  pub turn_stops : (b : B) (cause : Cause) (ts rest : Tokens) → begins set ts ≡ true → p ts ≡ Stop cause rest → read_fold set p step b ts ≡ Stop cause rest
-  unfolding read_fold
-  turn_stops b cause ts rest h e = unrolled (length ts) b ts refl h ∙ ap (λ o. and_then o (λ a' rest'. read_turns (length rest') set p step (step b a') rest')) e
+  one_turn b ts h = unrolled (length ts) b ts refl h
 
 ends_at : {A B : Type 0} (n : ℕ) (set : List Kind) (p : Reader A) (step : B → A → B) (b : B) (ts : Tokens) → begins set ts ≡ false → read_turns n set p step b ts ≡ Read b ts
 ends_at zero set p step b ts h = refl

@@ -1,13 +1,11 @@
 -- The words in which the rules of a grammar are put together.
-use Rattle.std.proofs.Common.{◌≡◌, ℕ, zero, suc, ◌+◌, Bool, true, false, ◌||◌, List, [], ◌∷◌, ◌++◌, Option, Some, None, refl, sym, ◌∙◌, ap, subst, inl, inr, ◌⊎◌, fold, cond}
+use Rattle.std.proofs.Common.{◌≡◌, ℕ, ◌+◌, Bool, true, false, ◌||◌, ◌&&◌, List, [], ◌∷◌, ◌++◌, Option, Some, None, refl, sym, ◌∙◌, ap, subst, inl, inr, fold, cond}
 use Rattle.std.specs.Prelude.{is_some}
-use Rattle.smv_ast.specs.declared.syntax.Span.{Span}
 use Rattle.smv_parse.specs.declared.kind.Kind.{Kind}
 use Rattle.smv_parse.specs.declared.kind.Kind.TheVariants as k
-use Rattle.smv_parse.specs.Lexicon.{Bytes, Token}
+use Rattle.smv_parse.specs.Lexicon.{Token}
 use Rattle.smv_parse.specs.Language.{Tokens, leaf, of_kind, find_kind, kinds_of, place_of, name_of, number_of, word, name, numeral, one_of, dep, both, many, opt, either, made, nothing, begins, has}
 use Rattle.smv_parse.specs.Reading.{Outcome, Reader, read_leaf, read_word, read_name, read_numeral, read_one_of, read_dep, read_both, read_made, read_either, read_nothing, read_opt, read_fold, read_many, and_then, pushed}
-use Rattle.smv_parse.specs.Reading.Outcome.{Read, Stop}
 use Rattle.smv_parse.proofs.Rules as rules
 use Rattle.smv_parse.proofs.Rules.{Good, IsLang, Rule, Starts, Leaves, GoesWithin, read_list}
 use Rattle.smv_parse.proofs.Turns.{many_gathers, chained}
@@ -34,6 +32,9 @@ kind_has kind f t a = by_test (has (kind ∷ []) t.kind) where
 
 starts_kind : {A : Type 0} (f : Token → A) (kind : Kind) (set : List Kind) → within (kind ∷ []) set ≡ true → Starts set (λ m. leaf (of_kind kind f))
 starts_kind f kind set w = starts_leaf set (λ t a e. has_within (kind ∷ []) set t.kind w (kind_has kind f t a e))
+
+within_itself : (kind : Kind) → within (kind ∷ []) (kind ∷ []) ≡ true
+within_itself kind = ap (λ v. (v || false) && true) (true_same_kind kind kind refl)
 
 pub starts_word : (kind : Kind) (set : List Kind) → within (kind ∷ []) set ≡ true → Starts set (λ m. word kind)
 starts_word kind set w = starts_kind place_of kind set w
@@ -115,9 +116,9 @@ tok_name = kind_rule k.Name name_of
 pub tok_numeral : {limit : ℕ} → Rule limit (λ m. numeral) (always []) read_numeral
 tok_numeral = kind_rule k.Numeral number_of
 
--- a table that is not empty
-pub tok_one_of : {A : Type 0} {limit : ℕ} (entry : Kind × A) (more : List (Kind × A)) → Rule limit (λ m. one_of (entry ∷ more)) (always []) (read_one_of (entry ∷ more))
-tok_one_of {A = A} entry more = leaf_rule (λ t. find_kind (entry ∷ more) t.kind) (some_token entry.0) entry.1 (ap (λ v. cond v (Some entry.1) (find_kind more entry.0)) (true_same_kind entry.0 entry.0 refl))
+-- a table, with one of its entries
+pub tok_one_of : {A : Type 0} {limit : ℕ} (table : List (Kind × A)) (entry : Kind × A) → find_kind table entry.0 ≡ Some entry.1 → Rule limit (λ m. one_of table) (always []) (read_one_of table)
+tok_one_of table entry e = leaf_rule (λ t. find_kind table t.kind) (some_token entry.0) entry.1 e
 
 pub none : {A : Type 0} {limit : ℕ} (goes : A → List Kind) (a : A) → Rule limit (λ m. nothing a) goes (read_nothing a)
 none {limit = limit} goes a = record { lang = rules.nothing_lang a; good = rules.nothing_good limit goes a }
@@ -140,9 +141,9 @@ pub after : {B : Type 0} {limit : ℕ} {M : ℕ → B → Tokens → Type 0} {h 
 after {M = M} {h = h} kind b = seq (tok kind) b (leaves_all M (always h))
 
 -- what goes on with one of `goes`, and then a word that is none of them
-pub before : {A : Type 0} {limit : ℕ} {L : ℕ → A → Tokens → Type 0} {g : List Kind} {p : Reader A} (kind : Kind) → disjoint (kind ∷ []) g ≡ true → within (kind ∷ []) (kind ∷ []) ≡ true
+pub before : {A : Type 0} {limit : ℕ} {L : ℕ → A → Tokens → Type 0} {g : List Kind} {p : Reader A} (kind : Kind) → disjoint (kind ∷ []) g ≡ true
     → Rule limit L (always g) p → Rule limit (λ m. both (L m) (word kind)) (always []) (read_both p (read_word kind))
-before {g = g} kind d w a = seq a (tok kind) (leaves_start g (always []) d (starts_word kind (kind ∷ []) w))
+before {g = g} kind d a = seq a (tok kind) (leaves_start g (always []) d (starts_word kind (kind ∷ []) (within_itself kind)))
 
 pub map : {A B : Type 0} {limit : ℕ} {L : ℕ → A → Tokens → Type 0} {g : List Kind} {p : Reader A} (fun : A → B) → Rule limit L (always g) p → Rule limit (λ m. made fun (L m)) (always g) (read_made fun p)
 map {limit = limit} {L = L} {g = g} {p = p} fun a = record {

@@ -1,5 +1,5 @@
 -- What a cursor keeps: the text from its next token on.
-use Rattle.std.specs.Prelude.{◌≡◌, ℕ, ◌+◌, ◌<◌, ◌≤◌, ◌^◌, false, List, [], ◌∷◌, length, All, Option, Some, None}
+use Rattle.std.specs.Prelude.{◌≡◌, ◌+◌, ◌<◌, ◌^◌, false, List, [], length, Option, Some, None}
 use Rattle.smv_parse.specs.declared.kind.Kind.TheVariants as k
 use Rattle.smv_parse.specs.declared.lexeme.Lexeme.{Lexeme}
 use Rattle.smv_parse.specs.declared.cursor.Cursor.TheInside.{Inside}

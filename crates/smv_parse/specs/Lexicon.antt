@@ -1,5 +1,5 @@
 -- The tokens of a text: what is cut from its bytes, and where each token stands.
-use Rattle.std.specs.Prelude.{◌≡◌, ℕ, zero, suc, ◌+◌, ◌*◌, ◌-◌, Bool, true, false, ◌||◌, ◌&&◌, if◌then◌else◌, ◌==◌, nat_eq, nat_le, nat_lt, List, [], ◌∷◌, length, map, take, take_while, fold, Option, Some, None, codes, not, ◌≤◌, ◌<◌, slice_index}
+use Rattle.std.specs.Prelude.{ℕ, zero, suc, ◌+◌, ◌*◌, ◌-◌, Bool, ◌||◌, ◌&&◌, if◌then◌else◌, ◌==◌, nat_eq, nat_le, List, [], ◌∷◌, length, map, take, take_while, fold, codes, not, ◌≤◌, ◌<◌, slice_index}
 use Rattle.std.specs.List.{starts_with}
 use lib.Pointwise.{pointwise}
 use denote.Enum.Bare.{sameb}

@@ -184,11 +184,7 @@ impl<'a> Cursor<'a> {
         let Some(next) = self.next else {
             unreachable!()
         };
-        *self = cursor_at(
-            self.file,
-            behind(self.rest, next.len),
-            self.at + next.len,
-        );
+        *self = cursor_at(self.file, behind(self.rest, next.len), self.at + next.len);
     }
 
     /// Takes the next token, if it is of this kind, and says where it stands.

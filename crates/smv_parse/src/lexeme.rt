@@ -237,9 +237,7 @@ pub fn first_lexeme(text: &[u8]) -> Lexeme
     requires { 0 < length text.now }
     ensures { result ≡ spec.first_lexeme text.now }
 {
-    let [first, ..] = text else {
-        unreachable!()
-    };
+    let [first, ..] = text else { unreachable!() };
     if is_blank(*first) {
         Lexeme {
             kind: Kind::Space,

@@ -3,5 +3,10 @@
 
 pub mod cursor;
 pub mod error;
+pub mod expression;
 pub mod kind;
 mod lexeme;
+pub mod program;
+pub mod sections;
+
+pub use program::{Reading, read_program};

@@ -1,4 +1,4 @@
-use Rattle.std.proofs.Common.{ap, ◌∙◌, length, take_while, List, ℕ}
+use Rattle.std.proofs.Common.{ap, ◌∙◌, length, ℕ}
 use Rattle.smv_parse.specs.Lexicon.{Bytes, find_word, words, word_lexeme}
 use Rattle.smv_parse.specs.declared.kind.Kind.{Kind}
 use Rattle.smv_parse.specs.declared.lexeme.Lexeme.{Lexeme}

@@ -1,4 +1,4 @@
-use Rattle.std.proofs.Common.{sym, ap, ◌∙◌, ◌+◌, ◌≤◌, length, drop, arith, length-drop}
+use Rattle.std.proofs.Common.{sym, ap, ◌∙◌, ◌+◌, length, drop, arith, length-drop}
 use Rattle.smv_parse.specs.Language.{Tokens}
 use Rattle.smv_parse.specs.Lexicon.{tokens_from}
 use Rattle.smv_parse.proofs.Lexemes.{Fits}
