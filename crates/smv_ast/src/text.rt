@@ -1,4 +1,4 @@
-ghost use Rattle.std.specs.Prelude.{◌≡◌, ◌↔◌, IsTrue, IfOk};
+ghost use Rattle.std.specs.Prelude.{◌≡◌, ◌<◌, ◌↔◌, IsTrue, IfOk, All};
 
 use crate::fault::NoMemory;
 use std::alloc::Global;
@@ -26,6 +26,17 @@ impl Text {
         Ok(Text {
             text: String::from_str(alloc, text)?,
         })
+    }
+
+    /// A copy of bytes that are ASCII.
+    pub fn from_ascii(alloc: Global, bytes: &[u8]) -> Result<Text, NoMemory>
+        requires { All (λ b. b < 128) bytes.now }
+        ensures { IfOk result (λ t. t ≡ bytes.now) }
+    {
+        match str::from_utf8(bytes) {
+            Ok(text) => Text::from_str(alloc, text),
+            Err(_) => unreachable!(),
+        }
     }
 
     pub fn as_str(&self) -> &str

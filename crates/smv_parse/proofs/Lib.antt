@@ -1,0 +1,13 @@
+pub mod Lexemes
+pub mod Spellings
+pub mod Cutting
+pub mod NextToken
+pub mod Sets
+pub mod Rules
+pub mod Turns
+pub mod Words
+pub mod ExpressionRules
+pub mod SectionRules
+pub mod Endings
+pub mod Places
+pub mod Answering

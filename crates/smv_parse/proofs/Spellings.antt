@@ -1,0 +1,115 @@
+-- What the spelling of a token is made of.
+use Rattle.std.proofs.Common.{◌≡◌, ℕ, zero, suc, ◌≤◌, ◌<◌, Bool, true, false, ◌&&◌, List, [], ◌∷◌, length, take, take_while, refl, sym, ap, subst, arith}
+use Rattle.std.specs.Prelude.{nat_le, not, All}
+use Rattle.std.proofs.lemmas.Bool.Decides.{nat_tests}
+use Rattle.std.proofs.lemmas.List.Folds.{length-prefix_len}
+use Rattle.std.proofs.lemmas.List.Sums.{take_while-cons}
+use Rattle.smv_parse.specs.declared.kind.Kind.{Kind}
+use Rattle.smv_parse.specs.declared.kind.Kind.TheVariants as k
+use Rattle.smv_parse.specs.declared.lexeme.Lexeme.{Lexeme}
+use Rattle.smv_parse.specs.Lexicon.{Bytes, is_blank, is_letter, is_digit, is_name_part, words, marks, find_word, find_mark, word_lexeme, numeral_kind, numeral_lexeme, mark_lexeme, begins_comment, first_lexeme, same_kind, IsNumeral}
+use Rattle.smv_parse.proofs.Lexemes.{by_test}
+
+-- ---- a run of bytes
+
+take_run : (p : ℕ → Bool) (text : Bytes) → take (length (take_while p text)) text ≡ take_while p text
+take_run p text = ap (λ n. take n text) (length-prefix_len p text)
+
+-- what each byte that passes the test keeps, each byte of a run keeps
+one_more : (P : ℕ → Type 0) (b : ℕ) (more : Bytes) → P b → All P more → All P (b ∷ more)
+one_more P b more here there zero d h = here
+one_more P b more here there (suc i) d h = there i d (omega arith)
+
+run_keeps : (p : ℕ → Bool) (P : ℕ → Type 0) → ((b : ℕ) → p b ≡ true → P b) → (text : Bytes) → All P (take_while p text)
+run_keeps p P keeps [] = λ i d h. absurd (omega arith)
+run_keeps p P keeps (b ∷ more) = subst (All P) (sym (take_while-cons p b more)) (by_test (All P) (p b) (b ∷ take_while p more) []
+    (λ e. one_more P b (take_while p more) (keeps b e) (run_keeps p P keeps more)) (λ e i d h. absurd (omega arith)))
+
+name_part_ascii : (b : ℕ) → is_name_part b ≡ true → b < 128
+name_part_ascii b h = grind (arith, nat_tests)
+
+digit_bounds : (b : ℕ) → is_digit b ≡ true → (48 ≤ b) × (b ≤ 57)
+digit_bounds b h = (grind (arith, nat_tests), grind (arith, nat_tests))
+
+-- ---- the kinds of a table
+
+-- no entry of the table has this kind
+abbrev pub lacks : Kind → List (Bytes × Kind) → Bool
+lacks kind [] = true
+lacks kind (entry ∷ more) = not (same_kind entry.1 kind) && lacks kind more
+
+both_left : (a b : Bool) → a && b ≡ true → a ≡ true
+both_left true b e = refl
+both_left false b e = e
+
+both_right : (a b : Bool) → a && b ≡ true → b ≡ true
+both_right true b e = e
+both_right false b e = cc
+
+not_true : (a : Bool) → not a ≡ true → a ≡ false
+not_true true e = cc
+not_true false e = refl
+
+abbrev IsOther : Kind → Kind → Type 0
+IsOther kind found = same_kind found kind ≡ false
+
+find_word_other : (kind : Kind) (table : List (Bytes × Kind)) (text : Bytes) → IsOther kind k.Name → lacks kind table ≡ true → IsOther kind (find_word table text)
+find_word_other kind [] text h l = h
+find_word_other kind (entry ∷ more) text h l = by_test (IsOther kind) _ entry.1 (find_word more text)
+    (λ e. not_true _ (both_left _ _ l)) (λ e. find_word_other kind more text h (both_right _ _ l))
+
+find_mark_other : (kind : Kind) (table : List (Bytes × Kind)) (text : Bytes) → IsOther kind k.Unknown → lacks kind table ≡ true → IsOther kind (find_mark table text).kind
+find_mark_other kind [] text h l = h
+find_mark_other kind (entry ∷ more) text h l = by_test (λ (x : Lexeme). IsOther kind x.kind) _ (record { kind = entry.1; len = length entry.0 }) (find_mark more text)
+    (λ e. not_true _ (both_left _ _ l)) (λ e. find_mark_other kind more text h (both_right _ _ l))
+
+-- ---- spellings
+
+-- where the lexeme is of this kind, its spelling keeps P
+abbrev Spells : (kind : Kind) (P : Bytes → Type 0) (text : Bytes) → Lexeme → Type 0
+Spells kind P text l = same_kind l.kind kind ≡ true → P (take l.len text)
+
+numeral_kind_other : (kind : Kind) (digits : ℕ) → IsOther kind k.Numeral → IsOther kind k.WideNumeral → IsOther kind (numeral_kind digits)
+numeral_kind_other kind digits h h' = by_test (IsOther kind) _ k.Numeral k.WideNumeral (λ e. h) (λ e. h')
+
+clash : (test : Bool) → test ≡ true → test ≡ false → ⊥
+clash test holds fails = cc
+
+name_spells : (b : ℕ) (more : Bytes) → Spells k.Name (All (λ c. c < 128)) (b ∷ more) (first_lexeme (b ∷ more))
+unfolding first_lexeme word_lexeme numeral_lexeme mark_lexeme marks same_kind
+name_spells b more = let ascii : Bytes → Type 0 = All (λ c. c < 128) in
+    by_test (Spells k.Name ascii (b ∷ more)) (is_blank b) _ _ (λ e h. absurd (clash _ h refl)) (λ e0.
+    by_test (Spells k.Name ascii (b ∷ more)) (begins_comment (b ∷ more)) _ _ (λ e h. absurd (clash _ h refl)) (λ e1.
+    by_test (Spells k.Name ascii (b ∷ more)) (is_letter b) _ _ (λ e h. subst ascii (sym (take_run is_name_part (b ∷ more))) (run_keeps is_name_part (λ c. c < 128) name_part_ascii (b ∷ more))) (λ e2.
+    by_test (Spells k.Name ascii (b ∷ more)) (is_digit b) _ _
+    (λ e h. absurd (clash _ h (numeral_kind_other k.Name (length (take_while is_digit (b ∷ more))) refl refl)))
+    (λ e3 h. absurd (clash _ h (find_mark_other k.Name marks (b ∷ more) refl refl))))))
+
+-- with at most nine digits, as `numeral_kind` says
+short_numeral : (digits : ℕ) → same_kind (numeral_kind digits) k.Numeral ≡ true → digits ≤ 9
+unfolding same_kind
+short_numeral digits = by_test (λ kind. same_kind kind k.Numeral ≡ true → digits ≤ 9) (nat_le digits 9) k.Numeral k.WideNumeral (λ e h. grind (arith, nat_tests)) (λ e h. cc)
+
+digits_are : (text : Bytes) → same_kind (numeral_kind (length (take_while is_digit text))) k.Numeral ≡ true → IsNumeral (take_while is_digit text)
+digits_are text h = record {
+  short = short_numeral _ h;
+  digit = λ i inside. run_keeps is_digit (λ c. (48 ≤ c) × (c ≤ 57)) digit_bounds text i 0 inside;
+}
+
+numeral_spells : (b : ℕ) (more : Bytes) → Spells k.Numeral IsNumeral (b ∷ more) (first_lexeme (b ∷ more))
+unfolding first_lexeme word_lexeme numeral_lexeme mark_lexeme marks words same_kind
+numeral_spells b more =
+    by_test (Spells k.Numeral IsNumeral (b ∷ more)) (is_blank b) _ _ (λ e h. absurd (clash _ h refl)) (λ e0.
+    by_test (Spells k.Numeral IsNumeral (b ∷ more)) (begins_comment (b ∷ more)) _ _ (λ e h. absurd (clash _ h refl)) (λ e1.
+    by_test (Spells k.Numeral IsNumeral (b ∷ more)) (is_letter b) _ _ (λ e h. absurd (clash _ h (find_word_other k.Numeral words (take_while is_name_part (b ∷ more)) refl refl))) (λ e2.
+    by_test (Spells k.Numeral IsNumeral (b ∷ more)) (is_digit b) _ _
+    (λ e h. subst IsNumeral (sym (take_run is_digit (b ∷ more))) (digits_are (b ∷ more) h))
+    (λ e3 h. absurd (clash _ h (find_mark_other k.Numeral marks (b ∷ more) refl refl))))))
+
+pub name_ascii : (l : Lexeme) (text : Bytes) → l ≡ first_lexeme text → 0 < length text → same_kind l.kind k.Name ≡ true → All (λ c. c < 128) (take l.len text)
+name_ascii l [] e some h = absurd (omega arith)
+name_ascii l (b ∷ more) e some h = subst (Spells k.Name (All (λ c. c < 128)) (b ∷ more)) (sym e) (name_spells b more) h
+
+pub numeral_digits : (l : Lexeme) (text : Bytes) → l ≡ first_lexeme text → 0 < length text → same_kind l.kind k.Numeral ≡ true → IsNumeral (take l.len text)
+numeral_digits l [] e some h = absurd (omega arith)
+numeral_digits l (b ∷ more) e some h = subst (Spells k.Numeral IsNumeral (b ∷ more)) (sym e) (numeral_spells b more) h

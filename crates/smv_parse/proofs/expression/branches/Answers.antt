@@ -1,0 +1,27 @@
+use Rattle.std.proofs.Common.{sym, ◌∙◌, arith, rules}
+use Rattle.std.proofs.lemmas.Grind.{common_steps}
+use Rattle.smv_parse.specs.Reading.{pushed}
+use Rattle.smv_parse.specs.Readers.{first_simple, read_branch, read_branches}
+use Rattle.smv_parse.proofs.Turns.{one_turn, turns_end}
+use Rattle.smv_parse.proofs.ExpressionRules.{branch_consumes}
+use Rattle.smv_parse.proofs.expression.branches.Goals as goal
+
+pub turns-init : goal.turns-init
+unfolding read_branches
+turns-init c = search rules
+
+pub returns-in_err-one : goal.returns-in_err-one
+returns-in_err-one c =
+    let turn = c.turns.invariant ∙ one_turn first_simple read_branch pushed branch_consumes c.turns.found c.turns.tokens (sym c.begins_simple.ensures ∙ c.turns-test.true) in
+    first_of (search rules, grind (arith, common_steps))
+
+pub turns-smaller : goal.turns-smaller
+turns-smaller c = branch_consumes.less c.turns.tokens c.in_ok-one.one _ c.in_ok-one.ensures
+
+pub turns-preserved : goal.turns-preserved
+turns-preserved c =
+    let turn = c.turns.invariant ∙ one_turn first_simple read_branch pushed branch_consumes c.turns.found c.turns.tokens (sym c.begins_simple.ensures ∙ c.turns-test.true) in
+    first_of (search rules, grind (arith, common_steps))
+
+pub returns : goal.returns
+returns c = c.turns.invariant ∙ turns_end first_simple read_branch pushed c.turns.found c.turns.tokens (sym c.begins_simple.ensures ∙ c.turns-test.false)

@@ -1,0 +1,98 @@
+-- Reading from the left, token by token, with one token of lookahead: the words of the grammar once more, as functions.
+use Rattle.std.specs.Prelude.{◌≡◌, ℕ, zero, suc, true, false, if◌then◌else◌, List, [], ◌∷◌, ◌++◌, Option, Some, None, length, Result, Ok, Err}
+use Rattle.smv_ast.specs.declared.syntax.Span.{Span}
+use Rattle.smv_parse.specs.declared.kind.Kind.{Kind}
+use Rattle.smv_parse.specs.declared.kind.Kind.TheVariants as k
+use Rattle.smv_parse.specs.declared.error.ReadError.{ReadError}
+use Rattle.smv_parse.specs.declared.error.ReadError.TheVariants as e
+use Rattle.smv_parse.specs.Lexicon.{Bytes, Token}
+use Rattle.smv_parse.specs.Language.{Tokens, begins, of_kind, find_kind, place_of, name_of, number_of}
+
+-- why a reader stops before the end of what it reads
+pub data Cause : Type 0 where
+  -- no text of the language goes on with the next token
+  Misfit : Cause
+
+-- A value and the tokens after it; or a cause, and the tokens from the one at which it comes on.
+pub data Outcome (A : Type 0) : Type 0 where
+  Read : A → Tokens → Outcome A
+  Stop : Cause → Tokens → Outcome A
+
+abbrev pub Reader : Type 0 → Type 0
+Reader A = Tokens → Outcome A
+
+abbrev pub and_then : {A B : Type 0} → Outcome A → (A → Reader B) → Outcome B
+and_then (Read a rest) f = f a rest
+and_then (Stop cause rest) f = Stop cause rest
+
+-- ---- single tokens
+
+abbrev pub read_if : {A : Type 0} → Option A → Tokens → Tokens → Outcome A
+read_if None ts rest = Stop Misfit ts
+read_if (Some a) ts rest = Read a rest
+
+abbrev pub read_leaf : {A : Type 0} → (Token → Option A) → Reader A
+read_leaf f [] = Stop Misfit []
+read_leaf f (t ∷ ts) = read_if (f t) (t ∷ ts) ts
+
+abbrev pub read_word : Kind → Reader Span
+read_word kind = read_leaf (of_kind kind place_of)
+
+abbrev pub read_name : Reader (Bytes × Span)
+read_name = read_leaf (of_kind k.Name name_of)
+
+abbrev pub read_numeral : Reader (ℕ × Span)
+read_numeral = read_leaf (of_kind k.Numeral number_of)
+
+abbrev pub read_one_of : {A : Type 0} → List (Kind × A) → Reader A
+read_one_of table = read_leaf (λ t. find_kind table t.kind)
+
+-- ---- readers out of readers
+
+abbrev pub read_dep : {A B : Type 0} → Reader A → (A → Reader B) → Reader (A × B)
+read_dep p q ts = and_then (p ts) (λ a rest. and_then (q a rest) (λ b rest'. Read (a, b) rest'))
+
+abbrev pub read_both : {A B : Type 0} → Reader A → Reader B → Reader (A × B)
+read_both p q = read_dep p (λ a. q)
+
+abbrev pub read_made : {A B : Type 0} → (A → B) → Reader A → Reader B
+read_made f p ts = and_then (p ts) (λ a rest. Read (f a) rest)
+
+-- the one where the next token is of one of these kinds, else the other
+abbrev pub read_either : {A : Type 0} → List Kind → Reader A → Reader A → Reader A
+read_either set p q ts = if begins set ts then p ts else q ts
+
+abbrev pub read_nothing : {A : Type 0} → A → Reader A
+read_nothing a ts = Read a ts
+
+abbrev pub read_opt : {A : Type 0} → List Kind → Reader A → Reader (Option A)
+read_opt set p = read_either set (read_made Some p) (read_nothing None)
+
+-- Goes on while one of `set` comes, and adds what it reads by `step`. The number bounds the turns.
+abbrev pub read_turns : {A B : Type 0} → ℕ → List Kind → Reader A → (B → A → B) → B → Reader B
+read_turns zero set p step b ts = Read b ts
+read_turns (suc n) set p step b ts = if begins set ts then and_then (p ts) (λ a rest. read_turns n set p step (step b a) rest) else Read b ts
+
+-- a turn takes a token at least, so there are no more turns than tokens
+unfoldable pub read_fold : {A B : Type 0} → List Kind → Reader A → (B → A → B) → B → Reader B
+read_fold set p step b ts = read_turns (length ts) set p step b ts
+
+abbrev pub pushed : {A : Type 0} → List A → A → List A
+pushed found a = found ++ a ∷ []
+
+abbrev pub read_many : {A : Type 0} → List Kind → Reader A → Reader (List A)
+read_many set p = read_fold set p pushed []
+
+-- ---- what a function that reads ensures
+
+-- An Ok is what the reader reads, and the cursor stands behind it. Where a token does not fit, the cursor
+-- stands at that token. Memory may run out at any time, and then nothing is said.
+abbrev pub Gives : {A : Type 0} → Outcome A → Result A ReadError → Tokens → Type 0
+Gives o (Ok a) new = o ≡ Read a new
+Gives o (Err e.NoMemory) new = Unit {0}
+Gives o (Err e.Unexpected) new = o ≡ Stop Misfit new
+
+-- what the reader reads, if one of these kinds comes; else nothing
+abbrev pub Eats : {A : Type 0} → List Kind → Reader A → Tokens → Option A → Tokens → Type 0
+Eats set p old None new = (begins set old ≡ false) × (new ≡ old)
+Eats set p old (Some a) new = (begins set old ≡ true) × (p old ≡ Read a new)

@@ -1,0 +1,12 @@
+//! Reads the text of models: tokens, the grammar, and where a text leaves it.
+#![tactic(auto)]
+
+pub mod cursor;
+pub mod error;
+pub mod expression;
+pub mod kind;
+mod lexeme;
+pub mod program;
+pub mod sections;
+
+pub use program::{Reading, read_program};
