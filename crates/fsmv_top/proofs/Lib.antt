@@ -4,3 +4,7 @@ pub mod ListLemmas
 pub mod AssignLemmas
 pub mod DeclaredLemmas
 pub mod ImposeLemmas
+pub mod WordLemmas
+pub mod FeatureRules
+pub mod FeatureAnswers
+pub mod OutputLemmas

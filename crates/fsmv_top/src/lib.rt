@@ -1,4 +1,10 @@
 //! The top call of fsmv: the words of a command in, one text and one status out.
 #![tactic(auto)]
 
+mod feature_text;
 mod integration;
+mod output;
+mod refusal;
+mod status;
+mod words;
+pub use status::Status;

@@ -1,0 +1,147 @@
+-- The lines that tell why nothing else is written.
+use Rattle.std.specs.Prelude.{ℕ, List, [], ◌∷◌, ◌++◌, Option, Some, None, codes}
+use Rattle.std.specs.Fmt.{decimal}
+use Rattle.smv_ast.specs.PrintedExpr.{each_after}
+use Rattle.smv_ast.specs.declared.syntax.Span.{Span}
+use Rattle.smv_ast.specs.declared.fault.Fault.{Fault}
+use Rattle.smv_ast.specs.declared.fault.Fault.TheVariants as fault
+
+-- a fault's name in a refusal line
+abbrev pub fault_name : Fault → List ℕ
+fault_name (fault.Syntax at) = codes "Syntax"
+fault_name (fault.LeftOut at word) = codes "LeftOut"
+fault_name (fault.WideNumber at) = codes "WideNumber"
+fault_name (fault.TooNested at) = codes "TooNested"
+fault_name (fault.TooLong at) = codes "TooLong"
+fault_name (fault.ReservedName at name) = codes "ReservedName"
+fault_name (fault.DuplicateFeature at name) = codes "DuplicateFeature"
+fault_name (fault.UnknownFeature at name) = codes "UnknownFeature"
+fault_name (fault.TooManyFeatures at count) = codes "TooManyFeatures"
+fault_name (fault.DuplicateText at name) = codes "DuplicateText"
+fault_name (fault.FeatureNotInModel at name) = codes "FeatureNotInModel"
+fault_name (fault.NoProduct at) = codes "NoProduct"
+fault_name (fault.NotValid at word) = codes "NotValid"
+fault_name (fault.RequireMissing at feature name product) = codes "RequireMissing"
+fault_name (fault.RequireType at feature name) = codes "RequireType"
+fault_name (fault.IntroduceClash at feature name) = codes "IntroduceClash"
+fault_name (fault.IntroducedInstance at feature name) = codes "IntroducedInstance"
+fault_name (fault.IntroducedAssign at feature name) = codes "IntroducedAssign"
+fault_name (fault.ImposeTarget at name) = codes "ImposeTarget"
+fault_name (fault.ImposeKind at name) = codes "ImposeKind"
+fault_name (fault.TreatTarget at path) = codes "TreatTarget"
+fault_name (fault.UnknownName at path) = codes "UnknownName"
+fault_name (fault.UnknownModule at name) = codes "UnknownModule"
+fault_name (fault.RecursiveModule at name) = codes "RecursiveModule"
+fault_name (fault.ArgumentCount at name) = codes "ArgumentCount"
+fault_name (fault.DuplicateName at name) = codes "DuplicateName"
+fault_name (fault.KindMismatch at) = codes "KindMismatch"
+fault_name (fault.EmptyRange at) = codes "EmptyRange"
+fault_name (fault.NegativeMod at) = codes "NegativeMod"
+fault_name (fault.ChoicePlace at) = codes "ChoicePlace"
+fault_name (fault.NextPlace at) = codes "NextPlace"
+fault_name (fault.DoubleAssign at name) = codes "DoubleAssign"
+fault_name (fault.ParameterAssign at name) = codes "ParameterAssign"
+fault_name (fault.CyclicDefine at cycle) = codes "CyclicDefine"
+fault_name (fault.TooLarge at) = codes "TooLarge"
+fault_name (fault.NoSpec at) = codes "NoSpec"
+fault_name (fault.TooDeep at cost) = codes "TooDeep"
+fault_name fault.NoMemory = codes "NoMemory"
+
+-- its place, where it has one
+abbrev pub fault_place : Fault → Option Span
+fault_place (fault.Syntax at) = at
+fault_place (fault.LeftOut at word) = at
+fault_place (fault.WideNumber at) = at
+fault_place (fault.TooNested at) = at
+fault_place (fault.TooLong at) = at
+fault_place (fault.ReservedName at name) = at
+fault_place (fault.DuplicateFeature at name) = at
+fault_place (fault.UnknownFeature at name) = at
+fault_place (fault.TooManyFeatures at count) = at
+fault_place (fault.DuplicateText at name) = at
+fault_place (fault.FeatureNotInModel at name) = at
+fault_place (fault.NoProduct at) = at
+fault_place (fault.NotValid at word) = at
+fault_place (fault.RequireMissing at feature name product) = at
+fault_place (fault.RequireType at feature name) = at
+fault_place (fault.IntroduceClash at feature name) = at
+fault_place (fault.IntroducedInstance at feature name) = at
+fault_place (fault.IntroducedAssign at feature name) = at
+fault_place (fault.ImposeTarget at name) = at
+fault_place (fault.ImposeKind at name) = at
+fault_place (fault.TreatTarget at path) = at
+fault_place (fault.UnknownName at path) = at
+fault_place (fault.UnknownModule at name) = at
+fault_place (fault.RecursiveModule at name) = at
+fault_place (fault.ArgumentCount at name) = at
+fault_place (fault.DuplicateName at name) = at
+fault_place (fault.KindMismatch at) = at
+fault_place (fault.EmptyRange at) = at
+fault_place (fault.NegativeMod at) = at
+fault_place (fault.ChoicePlace at) = at
+fault_place (fault.NextPlace at) = at
+fault_place (fault.DoubleAssign at name) = at
+fault_place (fault.ParameterAssign at name) = at
+fault_place (fault.CyclicDefine at cycle) = at
+fault_place (fault.TooLarge at) = at
+fault_place (fault.NoSpec at) = at
+fault_place (fault.TooDeep at cost) = at
+fault_place fault.NoMemory = None
+
+-- the values that it keeps, a product as the given text
+abbrev pub fault_kept : List ℕ → Fault → List (List ℕ)
+fault_kept product (fault.Syntax at) = []
+fault_kept product (fault.LeftOut at word) = word ∷ []
+fault_kept product (fault.WideNumber at) = []
+fault_kept product (fault.TooNested at) = []
+fault_kept product (fault.TooLong at) = []
+fault_kept product (fault.ReservedName at name) = name ∷ []
+fault_kept product (fault.DuplicateFeature at name) = name ∷ []
+fault_kept product (fault.UnknownFeature at name) = name ∷ []
+fault_kept product (fault.TooManyFeatures at count) = decimal count ∷ []
+fault_kept product (fault.DuplicateText at name) = name ∷ []
+fault_kept product (fault.FeatureNotInModel at name) = name ∷ []
+fault_kept product (fault.NoProduct at) = []
+fault_kept product (fault.NotValid at word) = word ∷ []
+fault_kept product (fault.RequireMissing at feature name bits) = feature ∷ name ∷ product ∷ []
+fault_kept product (fault.RequireType at feature name) = feature ∷ name ∷ []
+fault_kept product (fault.IntroduceClash at feature name) = feature ∷ name ∷ []
+fault_kept product (fault.IntroducedInstance at feature name) = feature ∷ name ∷ []
+fault_kept product (fault.IntroducedAssign at feature name) = feature ∷ name ∷ []
+fault_kept product (fault.ImposeTarget at name) = name ∷ []
+fault_kept product (fault.ImposeKind at name) = name ∷ []
+fault_kept product (fault.TreatTarget at path) = path ∷ []
+fault_kept product (fault.UnknownName at path) = path ∷ []
+fault_kept product (fault.UnknownModule at name) = name ∷ []
+fault_kept product (fault.RecursiveModule at name) = name ∷ []
+fault_kept product (fault.ArgumentCount at name) = name ∷ []
+fault_kept product (fault.DuplicateName at name) = name ∷ []
+fault_kept product (fault.KindMismatch at) = []
+fault_kept product (fault.EmptyRange at) = []
+fault_kept product (fault.NegativeMod at) = []
+fault_kept product (fault.ChoicePlace at) = []
+fault_kept product (fault.NextPlace at) = []
+fault_kept product (fault.DoubleAssign at name) = name ∷ []
+fault_kept product (fault.ParameterAssign at name) = name ∷ []
+fault_kept product (fault.CyclicDefine at cycle) = cycle ∷ []
+fault_kept product (fault.TooLarge at) = []
+fault_kept product (fault.NoSpec at) = []
+fault_kept product (fault.TooDeep at cost) = decimal cost ∷ []
+fault_kept product fault.NoMemory = []
+
+-- `FILE OFFSET`, or `- -` where there is no place
+abbrev pub printed_place : Option Span → List ℕ
+printed_place None = codes "- -"
+printed_place (Some at) = decimal at.file ++ codes " " ++ decimal at.at
+
+-- `refused NAME FILE OFFSET KEPT`
+abbrev pub refusal_line : List ℕ → Fault → List ℕ
+refusal_line product f = codes "refused " ++ fault_name f ++ codes " " ++ printed_place (fault_place f) ++ each_after (codes " ") (fault_kept product f) ++ codes "\n"
+
+-- `fault read FILE`
+abbrev pub read_fault_line : ℕ → List ℕ
+read_fault_line file = codes "fault read " ++ decimal file ++ codes "\n"
+
+-- how `fsmv` is called
+abbrev pub usage_line : List ℕ
+usage_line = codes "usage: fsmv weave|prove|check|make, see the manual\n"

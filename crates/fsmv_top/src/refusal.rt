@@ -1,0 +1,204 @@
+//! The lines that tell why nothing else is written.
+
+ghost use Rattle.std.specs.Prelude.{◌≡◌, ◌++◌, codes, IfOk, OnOk, string_bytes};
+ghost use Rattle.std.specs.Fmt.{decimal};
+ghost use Rattle.smv_ast.specs.PrintedExpr.{each_after};
+ghost use Rattle.fsmv_top.specs.Refusals as spec;
+
+use itoa::Buffer;
+use smv_ast::{Fault, NoMemory, Span};
+use std::alloc::{AllocError, Global};
+
+fn fault_name(fault: &Fault) -> &'static str
+    ensures { result.now ≡ spec.fault_name fault.now }
+{
+    match fault {
+        Fault::Syntax { .. } => "Syntax",
+        Fault::LeftOut { .. } => "LeftOut",
+        Fault::WideNumber { .. } => "WideNumber",
+        Fault::TooNested { .. } => "TooNested",
+        Fault::TooLong { .. } => "TooLong",
+        Fault::ReservedName { .. } => "ReservedName",
+        Fault::DuplicateFeature { .. } => "DuplicateFeature",
+        Fault::UnknownFeature { .. } => "UnknownFeature",
+        Fault::TooManyFeatures { .. } => "TooManyFeatures",
+        Fault::DuplicateText { .. } => "DuplicateText",
+        Fault::FeatureNotInModel { .. } => "FeatureNotInModel",
+        Fault::NoProduct { .. } => "NoProduct",
+        Fault::NotValid { .. } => "NotValid",
+        Fault::RequireMissing { .. } => "RequireMissing",
+        Fault::RequireType { .. } => "RequireType",
+        Fault::IntroduceClash { .. } => "IntroduceClash",
+        Fault::IntroducedInstance { .. } => "IntroducedInstance",
+        Fault::IntroducedAssign { .. } => "IntroducedAssign",
+        Fault::ImposeTarget { .. } => "ImposeTarget",
+        Fault::ImposeKind { .. } => "ImposeKind",
+        Fault::TreatTarget { .. } => "TreatTarget",
+        Fault::UnknownName { .. } => "UnknownName",
+        Fault::UnknownModule { .. } => "UnknownModule",
+        Fault::RecursiveModule { .. } => "RecursiveModule",
+        Fault::ArgumentCount { .. } => "ArgumentCount",
+        Fault::DuplicateName { .. } => "DuplicateName",
+        Fault::KindMismatch { .. } => "KindMismatch",
+        Fault::EmptyRange { .. } => "EmptyRange",
+        Fault::NegativeMod { .. } => "NegativeMod",
+        Fault::ChoicePlace { .. } => "ChoicePlace",
+        Fault::NextPlace { .. } => "NextPlace",
+        Fault::DoubleAssign { .. } => "DoubleAssign",
+        Fault::ParameterAssign { .. } => "ParameterAssign",
+        Fault::CyclicDefine { .. } => "CyclicDefine",
+        Fault::TooLarge { .. } => "TooLarge",
+        Fault::NoSpec { .. } => "NoSpec",
+        Fault::TooDeep { .. } => "TooDeep",
+        Fault::NoMemory => "NoMemory",
+    }
+}
+
+fn fault_place(fault: &Fault) -> Option<Span>
+    ensures { result ≡ spec.fault_place fault.now }
+{
+    match fault {
+        Fault::Syntax { at }
+        | Fault::LeftOut { at, .. }
+        | Fault::WideNumber { at }
+        | Fault::TooNested { at }
+        | Fault::TooLong { at }
+        | Fault::ReservedName { at, .. }
+        | Fault::DuplicateFeature { at, .. }
+        | Fault::UnknownFeature { at, .. }
+        | Fault::TooManyFeatures { at, .. }
+        | Fault::DuplicateText { at, .. }
+        | Fault::FeatureNotInModel { at, .. }
+        | Fault::NoProduct { at }
+        | Fault::NotValid { at, .. }
+        | Fault::RequireMissing { at, .. }
+        | Fault::RequireType { at, .. }
+        | Fault::IntroduceClash { at, .. }
+        | Fault::IntroducedInstance { at, .. }
+        | Fault::IntroducedAssign { at, .. }
+        | Fault::ImposeTarget { at, .. }
+        | Fault::ImposeKind { at, .. }
+        | Fault::TreatTarget { at, .. }
+        | Fault::UnknownName { at, .. }
+        | Fault::UnknownModule { at, .. }
+        | Fault::RecursiveModule { at, .. }
+        | Fault::ArgumentCount { at, .. }
+        | Fault::DuplicateName { at, .. }
+        | Fault::KindMismatch { at }
+        | Fault::EmptyRange { at }
+        | Fault::NegativeMod { at }
+        | Fault::ChoicePlace { at }
+        | Fault::NextPlace { at }
+        | Fault::DoubleAssign { at, .. }
+        | Fault::ParameterAssign { at, .. }
+        | Fault::CyclicDefine { at, .. }
+        | Fault::TooLarge { at }
+        | Fault::NoSpec { at }
+        | Fault::TooDeep { at, .. } => *at,
+        Fault::NoMemory => None,
+    }
+}
+
+fn push_number(out: &mut String, n: u64) -> Result<(), AllocError>
+    ensures { OnOk result (string_bytes out.new ≡ string_bytes out.old ++ decimal n) }
+{
+    let mut buffer = Buffer::new();
+    out.push_str(buffer.format(n))
+}
+
+fn push_word(out: &mut String, word: &str) -> Result<(), AllocError>
+    ensures { OnOk result (string_bytes out.new ≡ string_bytes out.old ++ (codes " " ++ word.now)) }
+{
+    out.push_str(" ")?;
+    out.push_str(word)
+}
+
+fn push_kept(out: &mut String, product: &str, fault: &Fault) -> Result<(), AllocError>
+    ensures { OnOk result (string_bytes out.new
+        ≡ string_bytes out.old ++ each_after (codes " ") (spec.fault_kept product.now fault.now)) }
+{
+    match fault {
+        Fault::RequireMissing { feature, name, .. } => {
+            push_word(out, feature.as_str())?;
+            push_word(out, name.as_str())?;
+            push_word(out, product)
+        }
+        Fault::RequireType { feature, name, .. }
+        | Fault::IntroduceClash { feature, name, .. }
+        | Fault::IntroducedInstance { feature, name, .. }
+        | Fault::IntroducedAssign { feature, name, .. } => {
+            push_word(out, feature.as_str())?;
+            push_word(out, name.as_str())
+        }
+        Fault::LeftOut { word: name, .. }
+        | Fault::ReservedName { name, .. }
+        | Fault::DuplicateFeature { name, .. }
+        | Fault::UnknownFeature { name, .. }
+        | Fault::DuplicateText { name, .. }
+        | Fault::FeatureNotInModel { name, .. }
+        | Fault::NotValid { word: name, .. }
+        | Fault::ImposeTarget { name, .. }
+        | Fault::ImposeKind { name, .. }
+        | Fault::TreatTarget { path: name, .. }
+        | Fault::UnknownName { path: name, .. }
+        | Fault::UnknownModule { name, .. }
+        | Fault::RecursiveModule { name, .. }
+        | Fault::ArgumentCount { name, .. }
+        | Fault::DuplicateName { name, .. }
+        | Fault::DoubleAssign { name, .. }
+        | Fault::ParameterAssign { name, .. }
+        | Fault::CyclicDefine { cycle: name, .. } => push_word(out, name.as_str()),
+        Fault::TooManyFeatures { count, .. }
+        | Fault::TooDeep { cost: count, .. } => {
+            out.push_str(" ")?;
+            push_number(out, *count)
+        }
+        Fault::Syntax { .. }
+        | Fault::WideNumber { .. }
+        | Fault::TooNested { .. }
+        | Fault::TooLong { .. }
+        | Fault::NoProduct { .. }
+        | Fault::KindMismatch { .. }
+        | Fault::EmptyRange { .. }
+        | Fault::NegativeMod { .. }
+        | Fault::ChoicePlace { .. }
+        | Fault::NextPlace { .. }
+        | Fault::TooLarge { .. }
+        | Fault::NoSpec { .. }
+        | Fault::NoMemory => Ok(()),
+    }
+}
+
+fn push_place(out: &mut String, place: Option<Span>) -> Result<(), AllocError>
+    ensures { OnOk result (string_bytes out.new ≡ string_bytes out.old ++ spec.printed_place place) }
+{
+    let Some(at) = place else {
+        return out.push_str("- -");
+    };
+    push_number(out, at.file as u64)?;
+    out.push_str(" ")?;
+    push_number(out, at.at as u64)
+}
+
+/// The line of a refusal. A product that the fault keeps is told as `product`.
+pub fn refusal_line(alloc: Global, product: &str, fault: &Fault) -> Result<String, NoMemory>
+    ensures { IfOk result (λ line. string_bytes line ≡ spec.refusal_line product.now fault.now) }
+{
+    let mut out = String::from_str(alloc, "refused ")?;
+    out.push_str(fault_name(fault))?;
+    out.push_str(" ")?;
+    push_place(&mut out, fault_place(fault))?;
+    push_kept(&mut out, product, fault)?;
+    out.push_str("\n")?;
+    Ok(out)
+}
+
+/// The line that tells which file cannot be read, by its number.
+pub fn read_fault_line(alloc: Global, file: u32) -> Result<String, NoMemory>
+    ensures { IfOk result (λ line. string_bytes line ≡ spec.read_fault_line file) }
+{
+    let mut out = String::from_str(alloc, "fault read ")?;
+    push_number(&mut out, file as u64)?;
+    out.push_str("\n")?;
+    Ok(out)
+}
