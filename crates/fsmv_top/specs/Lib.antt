@@ -3,4 +3,7 @@ pub mod UsedNames
 pub mod Impose
 pub mod Words
 pub mod Refusals
+pub mod Weaving
+pub mod Stops
+pub mod Plan
 pub mod FeatureText

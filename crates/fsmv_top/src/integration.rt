@@ -1,5 +1,9 @@
 //! Applying a feature to a model.
 
+mod apply;
 mod impose;
 mod lists;
 mod names;
+
+pub use apply::{apply_changes, missing_name};
+pub use names::MissingName;

@@ -6,5 +6,6 @@ mod integration;
 mod output;
 mod refusal;
 mod status;
+mod weave;
 mod words;
 pub use status::Status;
