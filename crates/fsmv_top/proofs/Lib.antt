@@ -8,3 +8,4 @@ pub mod WordLemmas
 pub mod FeatureRules
 pub mod FeatureAnswers
 pub mod OutputLemmas
+pub mod StopLemmas

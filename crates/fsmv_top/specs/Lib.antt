@@ -6,4 +6,5 @@ pub mod Refusals
 pub mod Weaving
 pub mod Stops
 pub mod Plan
+pub mod Answers
 pub mod FeatureText

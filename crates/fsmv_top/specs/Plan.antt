@@ -22,31 +22,38 @@ pub record Weaves (words : List (List ℕ)) : Type 0 where
   pub product : List ℕ
   pub named : IsWeave words base model feature product
 
-pub record PlansGood (words : List (List ℕ)) (held : Held) (text : List ℕ) : Type 0 where
-  pub command : Weaves words
-  pub woven : IsWoven (held command.base) (held command.feature) command.product text
-
-pub record PlansRefused (words : List (List ℕ)) (held : Held) (text : List ℕ) : Type 0 where
-  pub command : Weaves words
+-- the files are refused, and the line says why
+pub record RefusesFiles (base_told feature_told : Option Bytes) (product text : List ℕ) : Type 0 where
   pub fault : Fault
-  pub refused : IsRefused (held command.base) (held command.feature) command.product fault
-  pub line : text ≡ refusal_line command.product fault
+  pub refused : IsRefused base_told feature_told product fault
+  pub line : text ≡ refusal_line product fault
 
-pub record PlansUsage (words : List (List ℕ)) (text : List ℕ) : Type 0 where
-  pub no_command : Weaves words → ⊥
-  pub line : text ≡ usage_line
-
-pub record PlansReadFault (words : List (List ℕ)) (held : Held) (before after : ℕ) (text : List ℕ) : Type 0 where
-  pub command : Weaves words
+-- a file could not be read, the faults rose, and the line says which
+pub record MissesFile (base_told : Option Bytes) (before after : ℕ) (text : List ℕ) : Type 0 where
   pub file : ℕ
-  pub unread : IsUnread (held command.base) file
+  pub unread : IsUnread base_told file
   pub rose : Rose before after
   pub line : text ≡ read_fault_line file
 
--- what is to be written, by the status: over the words, what the files hold, and the files' faults before and after
+-- What `weave` is to write, by the status: over what is told of its base and its feature, the product's list of names,
+-- and the files' faults before and after.
+abbrev pub IsWeavePlan : Option Bytes → Option Bytes → List ℕ → ℕ → ℕ → Status → List ℕ → Type 0
+IsWeavePlan base_told feature_told product before after status.Good text = IsWoven base_told feature_told product text
+IsWeavePlan base_told feature_told product before after status.Refused text = RefusesFiles base_told feature_told product text
+IsWeavePlan base_told feature_told product before after status.ReadFault text = MissesFile base_told before after text
+IsWeavePlan base_told feature_told product before after _ text = ⊥
+
+-- the plan of `weave`, on the files that the words name
+pub record IsCommandPlan (words : List (List ℕ)) (held : Held) (before after : ℕ) (s : Status) (text : List ℕ) : Type 0 where
+  pub command : Weaves words
+  pub plan : IsWeavePlan (held command.base) (held command.feature) command.product before after s text
+
+-- the words are no command, and the line says how to call
+pub record IsUsagePlan (words : List (List ℕ)) (s : Status) (text : List ℕ) : Type 0 where
+  pub no_command : Weaves words → ⊥
+  pub status : s ≡ status.Usage
+  pub line : text ≡ usage_line
+
+-- what a call is to write, and the status that goes with it
 abbrev pub IsPlan : List (List ℕ) → Held → ℕ → ℕ → Status → List ℕ → Type 0
-IsPlan words held before after status.Good text = PlansGood words held text
-IsPlan words held before after status.Refused text = PlansRefused words held text
-IsPlan words held before after status.Usage text = PlansUsage words text
-IsPlan words held before after status.ReadFault text = PlansReadFault words held before after text
-IsPlan words held before after _ text = ⊥
+IsPlan words held before after s text = IsCommandPlan words held before after s text ⊎ IsUsagePlan words s text

@@ -56,12 +56,7 @@ fn change_text(alloc: Global, tokens: &mut Cursor<'_>) -> Result<Change, ReadErr
     })
 }
 
-fn with_change(
-    alloc: Global,
-    name: Text,
-    change: Change,
-    at: Span,
-) -> Result<Feature, NoMemory>
+fn with_change(alloc: Global, name: Text, change: Change, at: Span) -> Result<Feature, NoMemory>
     ensures { IfOk result (λ f. f ≡ record { name = name; needs = []; joins = []; changes = change ∷ []; at = at }) }
 {
     let mut changes = List::new(alloc);

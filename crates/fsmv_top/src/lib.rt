@@ -1,6 +1,7 @@
 //! The top call of fsmv: the words of a command in, one text and one status out.
 #![tactic(auto)]
 
+mod command;
 mod feature_text;
 mod integration;
 mod output;
@@ -8,4 +9,6 @@ mod refusal;
 mod status;
 mod weave;
 mod words;
+
+pub use command::run;
 pub use status::Status;

@@ -148,8 +148,7 @@ fn push_kept(out: &mut String, product: &str, fault: &Fault) -> Result<(), Alloc
         | Fault::DoubleAssign { name, .. }
         | Fault::ParameterAssign { name, .. }
         | Fault::CyclicDefine { cycle: name, .. } => push_word(out, name.as_str()),
-        Fault::TooManyFeatures { count, .. }
-        | Fault::TooDeep { cost: count, .. } => {
+        Fault::TooManyFeatures { count, .. } | Fault::TooDeep { cost: count, .. } => {
             out.push_str(" ")?;
             push_number(out, *count)
         }

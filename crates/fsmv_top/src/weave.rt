@@ -43,12 +43,7 @@ impl From<NoMemory> for Stop {
 }
 
 /// The whole content of a file.
-fn read_file<F: Files>(
-    alloc: Global,
-    files: &mut F,
-    file: u32,
-    name: &str,
-) -> Result<Vec<u8>, Stop>
+fn read_file<F: Files>(alloc: Global, files: &mut F, file: u32, name: &str) -> Result<Vec<u8>, Stop>
     requires { IsTrue (F.may_read files.old name.now) }
     ensures held_stays { F.held files.new ≡ F.held files.old }
     ensures may_read_stays { F.may_read files.new ≡ F.may_read files.old }
@@ -105,11 +100,7 @@ fn feature_of(alloc: Global, bytes: &[u8]) -> Result<Feature, Stop>
 }
 
 /// The feature of file 2.
-fn read_feature_file<F: Files>(
-    alloc: Global,
-    files: &mut F,
-    name: &str,
-) -> Result<Feature, Stop>
+fn read_feature_file<F: Files>(alloc: Global, files: &mut F, name: &str) -> Result<Feature, Stop>
     requires { IsTrue (F.may_read files.old name.now) }
     ensures held_stays { F.held files.new ≡ F.held files.old }
     ensures may_read_stays { F.may_read files.new ≡ F.may_read files.old }
@@ -122,12 +113,7 @@ fn read_feature_file<F: Files>(
 }
 
 /// The text of the product: the base with the feature applied where the product lists it.
-fn integrate(
-    alloc: Global,
-    base: Program,
-    feature: Feature,
-    product: &str,
-) -> Result<Program, Stop>
+fn integrate(alloc: Global, base: Program, feature: Feature, product: &str) -> Result<Program, Stop>
     ensures { stops.Integrates base feature product.now result }
 {
     if !lists(product, feature.name.as_str()) {
@@ -142,4 +128,22 @@ fn integrate(
         })),
         None => Ok(apply_changes(alloc, base, feature.changes)?),
     }
+}
+
+/// The canonical text of the product that the words name, or why there is none.
+///
+/// The base is read and judged before the feature's file is opened. The file of the feature model is not opened.
+pub fn weave<F: Files>(alloc: Global, words: WeaveWords<'_>, files: &mut F) -> Result<String, Stop>
+    requires base_allowed { IsTrue (F.may_read files.old words.base.now) }
+    requires feature_allowed { IsTrue (F.may_read files.old words.feature.now) }
+    ensures held_stays { F.held files.new ≡ F.held files.old }
+    ensures may_read_stays { F.may_read files.new ≡ F.may_read files.old }
+    ensures faults_never_fall { F.faults files.old ≤ F.faults files.new }
+    ensures woven { IfOk result (λ text. spec.IsWoven (F.held files.old words.entry.base.now) (F.held files.old words.entry.feature.now) words.entry.product.now (string_bytes text)) }
+    ensures stopped { IfErr result (stops.StopsWeaving (F.held files.old words.entry.base.now) (F.held files.old words.entry.feature.now) words.entry.product.now (F.faults files.old) (F.faults files.new)) }
+{
+    let base = read_base(alloc, files, words.base)?;
+    let feature = read_feature_file(alloc, files, words.feature)?;
+    let program = integrate(alloc, base, feature, words.product)?;
+    Ok(print_program(alloc, &program)?)
 }

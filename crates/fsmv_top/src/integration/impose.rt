@@ -133,11 +133,7 @@ fn place_of_section(left: Left, name: &Text, sections: &[Section]) -> Option<usi
     None
 }
 
-fn guard_section(
-    alloc: Global,
-    section: Section,
-    imposed: Imposed,
-) -> Result<Section, NoMemory>
+fn guard_section(alloc: Global, section: Section, imposed: Imposed) -> Result<Section, NoMemory>
     ensures { IfOk result (λ changed. changed ≡ spec.guarded_section imposed section) }
 {
     match section {
@@ -320,11 +316,7 @@ fn type_of<'a>(name: &Text, sections: &'a [Section]) -> Option<&'a SmvType>
 
 /// Where no assignment of the left side stands: one that keeps any value of the type where the
 /// condition is false.
-fn new_assignment(
-    alloc: Global,
-    imposed: Imposed,
-    values: Choice,
-) -> Result<Assignment, NoMemory>
+fn new_assignment(alloc: Global, imposed: Imposed, values: Choice) -> Result<Assignment, NoMemory>
     ensures { IfOk result (λ a. a ≡ spec.kept_assignment imposed values) }
 {
     let Imposed {

@@ -6,11 +6,7 @@ use smv_ast::{List, NoMemory};
 use std::alloc::Global;
 
 /// Takes the last `count` items out of the list, in their order.
-fn take_last<T: Drop>(
-    alloc: Global,
-    list: &mut List<T>,
-    count: usize,
-) -> Result<List<T>, NoMemory>
+fn take_last<T: Drop>(alloc: Global, list: &mut List<T>, count: usize) -> Result<List<T>, NoMemory>
     requires { count ≤ length list.old }
     ensures split { IfOk result (λ last. list.old ≡ list.new ++ last) }
     ensures count { IfOk result (λ last. length last ≡ count) }

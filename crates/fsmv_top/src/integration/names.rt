@@ -5,7 +5,9 @@ ghost use Rattle.std.specs.Option.{option_copied, option_map};
 ghost use Rattle.smv_ast.specs.PrintedExpr.{joined, each_after};
 ghost use Rattle.fsmv_top.specs.UsedNames as spec;
 
-use smv_ast::{Action, Branch, Change, Choice, Declaration, Expr, List, NoMemory, Path, Section, Span, Text};
+use smv_ast::{
+    Action, Branch, Change, Choice, Declaration, Expr, List, NoMemory, Path, Section, Span, Text,
+};
 use std::alloc::{AllocError, Global};
 use std::collections::HashSet;
 

@@ -12,9 +12,12 @@ returns-in-Err-Unexpected c =
 
 pub returns-then-not-changes_main : goal.returns-then-not-changes_main
 returns-then-not-changes_main c =
-    let only = subst (λ (ts : Tokens). IsOnly feature_text ts c.in-Ok.feature) c.new-tokens.ensures c.in-Ok.ensures in
-    (c.stand-first.result, refl, misnamed c.args.file c.args.bytes.now c.in-Ok.feature c.stand-first.result only (λ e. let changes = c.changes_main.ensures.1 e in cc)
-        (c.stand-first.ensures ∙ ap (stand c.args.file c.args.bytes.now) c.new-tokens.ensures))
+    let only = subst (λ (ts : Tokens). IsOnly feature_text ts c.in-Ok.feature) c.new-tokens.ensures c.in-Ok.ensures in (
+      c.stand-first.result,
+      refl,
+      misnamed c.args.file c.args.bytes.now c.in-Ok.feature c.stand-first.result only (λ e. let changes = c.changes_main.ensures.1 e in cc)
+          (c.stand-first.ensures ∙ ap (stand c.args.file c.args.bytes.now) c.new-tokens.ensures),
+    )
 
 pub returns-else-not-changes_main : goal.returns-else-not-changes_main
 returns-else-not-changes_main c =

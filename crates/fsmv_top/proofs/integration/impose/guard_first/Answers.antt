@@ -9,5 +9,5 @@ returns c =
     let i = c.args.imposed in
     let first : first_place (has_left i.left i.name) c.args.assignments ≡ Some c.in-Some.at = first_of (search rules, grind arith) in
     let taken = change_first_taken (has_left i.left i.name) (guarded_assignment i) c.args.assignments c.take_at.new.list c.in_ok-old.behind c.in_ok-old.old c.in-Some.at
-        c.in_ok-old.ensures.split c.in_ok-old.ensures.place first in
+    c.in_ok-old.ensures.split c.in_ok-old.ensures.place first in
     first_of (cc, grind arith)

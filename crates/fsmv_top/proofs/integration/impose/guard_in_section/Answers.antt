@@ -10,5 +10,5 @@ pub returns : goal.returns
 returns c =
     let i = c.args.imposed in
     let taken = change_first_taken (assigns i.left i.name) (guarded_section i) c.args.sections c.take_at.new.list c.in_ok-section.behind c.in_ok-section.section c.args.at
-        c.in_ok-section.ensures.split c.in_ok-section.ensures.place c.requires in
+    c.in_ok-section.ensures.split c.in_ok-section.ensures.place c.requires in
     first_of (cc, grind arith)

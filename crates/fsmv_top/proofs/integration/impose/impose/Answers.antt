@@ -12,6 +12,6 @@ returns c =
     let modules = c.args.program.modules in
     let found : first_place (is_named c.args.name.now) modules ≡ Some c.in-Some.at = first_of (search rules, grind arith) in
     let taken = change_first_taken (is_named c.args.name.now) (imposed_in c.args.imposed) modules c.take_at.new.list c.in_ok-module.behind c.in_ok-module.module c.in-Some.at
-        c.in_ok-module.ensures.split c.in_ok-module.ensures.place found in
+    c.in_ok-module.ensures.split c.in_ok-module.ensures.place found in
     let same : c.append.new.self ≡ change_first (is_named c.args.name.now) (imposed_in c.args.imposed) modules = first_of (cc, grind arith) in
     ap (λ (ms : List Module). record { modules = ms }) same

@@ -16,5 +16,5 @@ pub returns : goal.returns
 returns c =
     let last : IsLastPlace is_assigns c.args.sections c.in-Some.at = search rules in
     let whole = with_assignment_taken c.args.sections c.take_at.new.list c.in_ok-last.behind c.in_ok-last.last c.args.assignment c.in-Some.at
-        c.in_ok-last.ensures.split c.in_ok-last.ensures.place last in
+    c.in_ok-last.ensures.split c.in_ok-last.ensures.place last in
     first_of (cc, grind (arith, common_steps))

@@ -9,5 +9,5 @@ loop-declaration-preserved c = λ name.
     let i = c.loop-declaration.declaration-index in
     let rest = drop (i + 1) c.args.declarations.now in
     step c.loop-declaration.names c.insert.new.self c.as_str.result c.in_ok-insert.ensures.updates d c.as_str.ensures
-        _ rest (drop_more c.args.declarations.now i d c.loop-declaration-test.true ∙ ap (λ x. x ∷ rest) (sym c.declaration-item.is))
-        name _ (c.loop-declaration.invariant name)
+    _ rest (drop_more c.args.declarations.now i d c.loop-declaration-test.true ∙ ap (λ x. x ∷ rest) (sym c.declaration-item.is))
+    name _ (c.loop-declaration.invariant name)
