@@ -13,7 +13,7 @@ use Rattle.smv_parse.specs.declared.kind.Kind.TheVariants as k
 use Rattle.smv_parse.specs.Language.{Tokens, of_kind, has, place_of}
 use Rattle.smv_parse.specs.Grammar.{one_module, program, Reads}
 use Rattle.smv_parse.specs.Answer.{IsOnly, StopsAt, stand, Accepts, Refuses, Answers}
-use Rattle.smv_parse.proofs.Lexemes.{by_test}
+use Rattle.smv_parse.proofs.Booleans.{by_test}
 use Rattle.smv_parse.proofs.Places.{StandsIn, AllStandIn, rest_stands, stand_in_file, stand_within}
 
 abbrev pub alone : Module → Program

@@ -1,8 +1,9 @@
 -- The tokens of a text: first that of the lexeme at its front, then those behind it.
-use Rattle.std.proofs.Common.{◌≡◌, ℕ, zero, suc, ◌+◌, ◌-◌, ◌<◌, [], ◌∷◌, length, take, drop, refl, sym, ◌∙◌, ap, subst, arith, Bool, true, false, cond}
+use Rattle.std.proofs.Common.{◌≡◌, ℕ, zero, suc, ◌+◌, ◌-◌, ◌<◌, [], ◌∷◌, length, take, drop, refl, sym, ◌∙◌, ap, subst, arith, true, false}
 use Rattle.smv_parse.specs.declared.kind.Kind.TheVariants as k
 use Rattle.smv_parse.specs.declared.lexeme.Lexeme.{Lexeme}
 use Rattle.smv_parse.specs.Lexicon.{Bytes, Token, first_lexeme, same_kind, tokens_from, tokens_in}
+use Rattle.smv_parse.proofs.Booleans.{cond_true, cond_false}
 use Rattle.smv_parse.proofs.Lexemes.{Fits, lexeme_fits}
 
 -- bytes of the lexeme before are passed over
@@ -16,25 +17,19 @@ behind zero file at b more h = absurd (omega arith)
 behind (suc n) file at b more h = ap (λ x. tokens_in x file (at + 1) more) (let e : suc n - 1 ≡ n = omega arith in e) ∙ tokens_in-drop n file (at + 1) more
     ∙ ap (λ x. tokens_from file x (drop n more)) (let e : at + 1 + n ≡ at + suc n = omega arith in e)
 
-choose_true : {A : Type 0} (v : Bool) (x y : A) → v ≡ true → cond v x y ≡ x
-choose_true v x y e = ap (λ w. cond w x y) e
-
-choose_false : {A : Type 0} (v : Bool) (x y : A) → v ≡ false → cond v x y ≡ y
-choose_false v x y e = ap (λ w. cond w x y) e
-
 unfoldable pub token_at : ℕ → ℕ → Lexeme → Bytes → Token
 token_at file at l text = record { kind = l.kind; at = record { file = file; at = at }; text = take l.len text }
 
 space_first : (file at : ℕ) (text : Bytes) → 0 < length text → same_kind (first_lexeme text).kind k.Space ≡ true
     → tokens_from file at text ≡ tokens_from file (at + (first_lexeme text).len) (drop (first_lexeme text).len text)
 space_first file at [] some e = absurd (omega arith)
-space_first file at (b ∷ more) some e = choose_true _ _ _ e ∙ behind (first_lexeme (b ∷ more)).len file at b more (lexeme_fits b more).some
+space_first file at (b ∷ more) some e = cond_true _ _ _ e ∙ behind (first_lexeme (b ∷ more)).len file at b more (lexeme_fits b more).some
 
 token_first : (file at : ℕ) (text : Bytes) → 0 < length text → same_kind (first_lexeme text).kind k.Space ≡ false
     → tokens_from file at text ≡ token_at file at (first_lexeme text) text ∷ tokens_from file (at + (first_lexeme text).len) (drop (first_lexeme text).len text)
 unfolding token_at
 token_first file at [] some e = absurd (omega arith)
-token_first file at (b ∷ more) some e = choose_false _ _ _ e ∙ ap (λ x. token_at file at (first_lexeme (b ∷ more)) (b ∷ more) ∷ x) (behind (first_lexeme (b ∷ more)).len file at b more (lexeme_fits b more).some)
+token_first file at (b ∷ more) some e = cond_false _ _ _ e ∙ ap (λ x. token_at file at (first_lexeme (b ∷ more)) (b ∷ more) ∷ x) (behind (first_lexeme (b ∷ more)).len file at b more (lexeme_fits b more).some)
 
 -- a space at the front stands for no token
 pub skipped_space : (file at : ℕ) (l : Lexeme) (text rest : Bytes) → l ≡ first_lexeme text → 0 < length text → same_kind l.kind k.Space ≡ true → rest ≡ drop l.len text

@@ -1,5 +1,5 @@
 -- Facts about what stands at the front of a text.
-use Rattle.std.proofs.Common.{◌≡◌, ℕ, ◌≤◌, ◌<◌, Bool, true, false, ◌||◌, List, [], ◌∷◌, length, take, take_while, refl, sym, ap, subst, arith, cond}
+use Rattle.std.proofs.Common.{◌≡◌, ℕ, ◌≤◌, ◌<◌, Bool, true, false, ◌||◌, List, [], ◌∷◌, length, take, take_while, refl, sym, ap, subst, arith}
 use Rattle.std.specs.Prelude.{nat_eq, codes, ◌==◌}
 use Rattle.std.specs.List.{starts_with}
 use Rattle.std.specs.Cmp.Lexicographic.{same_text}
@@ -9,12 +9,8 @@ use Rattle.std.proofs.lemmas.List.Sums.{prefix_len-le-length, take_while-cons}
 use Rattle.smv_parse.specs.declared.kind.Kind.{Kind}
 use Rattle.smv_parse.specs.declared.kind.Kind.TheVariants as k
 use Rattle.smv_parse.specs.declared.lexeme.Lexeme.{Lexeme}
+use Rattle.smv_parse.proofs.Booleans.{by_test}
 use Rattle.smv_parse.specs.Lexicon.{Bytes, is_blank, is_letter, is_digit, is_name_part, is_in_line, marks, find_mark, word_lexeme, numeral_lexeme, mark_lexeme, begins_comment, first_lexeme}
-
--- what holds in both cases of a test
-pub by_test : {A : Type 0} (P : A → Type 0) (test : Bool) (x y : A) → (test ≡ true → P x) → (test ≡ false → P y) → P (cond test x y)
-by_test P true x y f g = f refl
-by_test P false x y f g = g refl
 
 -- ---- a lexeme takes some of the text, and no more than there is
 

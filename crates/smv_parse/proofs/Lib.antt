@@ -1,3 +1,4 @@
+pub mod Booleans
 pub mod Lexemes
 pub mod Spellings
 pub mod Cutting

@@ -4,7 +4,7 @@ use Rattle.smv_parse.specs.declared.kind.Kind.TheVariants as k
 use Rattle.smv_parse.specs.Lexicon.{Bytes, Token, first_lexeme, same_kind, tokens_in, tokens}
 use Rattle.smv_parse.specs.Language.{Tokens}
 use Rattle.smv_parse.specs.Answer.{stand}
-use Rattle.smv_parse.proofs.Lexemes.{by_test}
+use Rattle.smv_parse.proofs.Booleans.{by_test}
 
 pub record StandsIn (file len : ℕ) (t : Token) : Type 0 where
   pub in_file : t.at.file ≡ file

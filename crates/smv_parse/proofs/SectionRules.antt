@@ -70,7 +70,7 @@ module _ {limit : ℕ} where
 
   name_in_parens_rule : Rule limit (λ m. name_in_parens) (always []) read_name_in_parens
   unfolding read_name_in_parens same_kind
-  name_in_parens_rule = after k.OpenParen (before k.CloseParen refl tok_name)
+  name_in_parens_rule = map _ (after k.OpenParen (before k.CloseParen refl tok_name))
 
   pub left_side_rule : Rule limit (λ m. left_side) (always []) read_left_side
   unfolding read_left_side same_kind

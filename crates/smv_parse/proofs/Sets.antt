@@ -1,10 +1,11 @@
 -- Sets of kinds, compared by computing.
-use Rattle.std.proofs.Common.{◌≡◌, Bool, true, false, ◌||◌, ◌&&◌, List, [], ◌∷◌, refl, sym, subst}
+use Rattle.std.proofs.Common.{◌≡◌, Bool, true, false, ◌&&◌, List, [], ◌∷◌, refl, sym, subst}
 use Rattle.std.specs.Prelude.{not}
 use denote.Enum.Bare.{same_true, true_same}
 use Rattle.smv_parse.specs.contracts.kind.Kind.{the_type}
 use Rattle.smv_parse.specs.declared.kind.Kind.{Kind}
 use Rattle.smv_parse.specs.Lexicon.{same_kind}
+use Rattle.smv_parse.proofs.Booleans.{both_left, both_right, not_true, one_or_other}
 use Rattle.smv_parse.specs.Language.{Tokens, begins, has}
 
 -- each kind of the first is in the second
@@ -16,22 +17,6 @@ within (x ∷ xs) ys = has ys x && within xs ys
 abbrev pub disjoint : List Kind → List Kind → Bool
 disjoint [] ys = true
 disjoint (x ∷ xs) ys = not (has ys x) && disjoint xs ys
-
-both_left : (a b : Bool) → a && b ≡ true → a ≡ true
-both_left true b e = refl
-both_left false b e = e
-
-both_right : (a b : Bool) → a && b ≡ true → b ≡ true
-both_right true b e = e
-both_right false b e = cc
-
-not_true : (a : Bool) → not a ≡ true → a ≡ false
-not_true true e = cc
-not_true false e = refl
-
-one_or_other : (v w : Bool) (P : Type 0) → (v ≡ true → P) → (w ≡ true → P) → v || w ≡ true → P
-one_or_other true w P f g e = f refl
-one_or_other false w P f g e = g e
 
 pub same_kind_true : (a b : Kind) → same_kind a b ≡ true → a ≡ b
 unfolding same_kind

@@ -8,7 +8,7 @@ use Rattle.smv_parse.specs.declared.kind.Kind.{Kind}
 use Rattle.smv_parse.specs.declared.kind.Kind.TheVariants as k
 use Rattle.smv_parse.specs.declared.lexeme.Lexeme.{Lexeme}
 use Rattle.smv_parse.specs.Lexicon.{Bytes, is_blank, is_letter, is_digit, is_name_part, words, marks, find_word, find_mark, word_lexeme, numeral_kind, numeral_lexeme, mark_lexeme, begins_comment, first_lexeme, same_kind, IsNumeral}
-use Rattle.smv_parse.proofs.Lexemes.{by_test}
+use Rattle.smv_parse.proofs.Booleans.{by_test, both_left, both_right, not_true, clash}
 
 -- ---- a run of bytes
 
@@ -38,18 +38,6 @@ abbrev pub lacks : Kind → List (Bytes × Kind) → Bool
 lacks kind [] = true
 lacks kind (entry ∷ more) = not (same_kind entry.1 kind) && lacks kind more
 
-both_left : (a b : Bool) → a && b ≡ true → a ≡ true
-both_left true b e = refl
-both_left false b e = e
-
-both_right : (a b : Bool) → a && b ≡ true → b ≡ true
-both_right true b e = e
-both_right false b e = cc
-
-not_true : (a : Bool) → not a ≡ true → a ≡ false
-not_true true e = cc
-not_true false e = refl
-
 abbrev IsOther : Kind → Kind → Type 0
 IsOther kind found = same_kind found kind ≡ false
 
@@ -71,9 +59,6 @@ Spells kind P text l = same_kind l.kind kind ≡ true → P (take l.len text)
 
 numeral_kind_other : (kind : Kind) (digits : ℕ) → IsOther kind k.Numeral → IsOther kind k.WideNumeral → IsOther kind (numeral_kind digits)
 numeral_kind_other kind digits h h' = by_test (IsOther kind) _ k.Numeral k.WideNumeral (λ e. h) (λ e. h')
-
-clash : (test : Bool) → test ≡ true → test ≡ false → ⊥
-clash test holds fails = cc
 
 name_spells : (b : ℕ) (more : Bytes) → Spells k.Name (All (λ c. c < 128)) (b ∷ more) (first_lexeme (b ∷ more))
 unfolding first_lexeme word_lexeme numeral_lexeme mark_lexeme marks same_kind

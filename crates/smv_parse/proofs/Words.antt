@@ -25,10 +25,10 @@ pub starts_leaf : {A : Type 0} {f : Token → Option A} (set : List Kind) → ((
 starts_leaf set h = record { at = λ m a f w. subst (λ (x : Tokens). begins set x ≡ true) (sym w.1) (h w.0 a w.2) }
 
 kind_has : {A : Type 0} (kind : Kind) (f : Token → A) (t : Token) (a : A) → of_kind kind f t ≡ Some a → has (kind ∷ []) t.kind ≡ true
-kind_has kind f t a = by_test (has (kind ∷ []) t.kind) where
-  by_test : (v : Bool) → cond v (Some (f t)) None ≡ Some a → v ≡ true
-  by_test true e = refl
-  by_test false e = cc
+kind_has kind f t a = by_case (has (kind ∷ []) t.kind) where
+  by_case : (v : Bool) → cond v (Some (f t)) None ≡ Some a → v ≡ true
+  by_case true e = refl
+  by_case false e = cc
 
 starts_kind : {A : Type 0} (f : Token → A) (kind : Kind) (set : List Kind) → within (kind ∷ []) set ≡ true → Starts set (λ m. leaf (of_kind kind f))
 starts_kind f kind set w = starts_leaf set (λ t a e. has_within (kind ∷ []) set t.kind w (kind_has kind f t a e))

@@ -88,11 +88,11 @@ declaration = made declaration_of (both name (both (word k.Colon) (both smv_type
 -- ---- assignments
 
 -- ( id )
-abbrev pub name_in_parens : Lang (Span × ((Bytes × Span) × Span))
-name_in_parens = both (word k.OpenParen) (both name (word k.CloseParen))
+abbrev pub name_in_parens : Lang Bytes
+name_in_parens = made (λ p. p.1.0.0) (both (word k.OpenParen) (both name (word k.CloseParen)))
 
-abbrev pub side_of : Left → Span × (Span × ((Bytes × Span) × Span)) → LeftSide
-side_of of p = record { left = of; name = p.1.1.0.0; at = p.0 }
+abbrev pub side_of : Left → Span × Bytes → LeftSide
+side_of of p = record { left = of; name = p.1; at = p.0 }
 
 -- init ( id ) | next ( id )
 abbrev pub left_side : Lang LeftSide

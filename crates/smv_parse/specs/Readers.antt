@@ -1,6 +1,5 @@
 -- The reader of each part of the grammar.
 use Rattle.std.specs.Prelude.{List, [], ◌∷◌}
-use Rattle.smv_ast.specs.declared.syntax.Span.{Span}
 use Rattle.smv_ast.specs.declared.syntax.Expr.{Expr}
 use Rattle.smv_ast.specs.declared.syntax.Expr.TheVariants as e
 use Rattle.smv_ast.specs.declared.syntax.Branch.{Branch}
@@ -53,8 +52,8 @@ read_declaration = read_made declaration_of (read_both read_name (read_both (rea
 unfoldable pub read_declarations : Reader (List Declaration)
 read_declarations = read_many (k.Name ∷ []) read_declaration
 
-unfoldable pub read_name_in_parens : Reader (Span × ((Bytes × Span) × Span))
-read_name_in_parens = read_both (read_word k.OpenParen) (read_both read_name (read_word k.CloseParen))
+unfoldable pub read_name_in_parens : Reader Bytes
+read_name_in_parens = read_made (λ p. p.1.0.0) (read_both (read_word k.OpenParen) (read_both read_name (read_word k.CloseParen)))
 
 unfoldable pub read_left_side : Reader LeftSide
 read_left_side = read_either (k.Init ∷ []) (read_made (side_of left.Init) (read_both (read_word k.Init) read_name_in_parens)) (read_made (side_of left.Next) (read_both (read_word k.Next) read_name_in_parens))

@@ -8,8 +8,11 @@ pub enum Kind {
     Var,
     Assign,
     Define,
+    /// INIT, while `Init` is the word `init`.
     InitSection,
+    /// INVAR.
     InvarSection,
+    /// TRANS.
     TransSection,
     InvarSpec,
     Spec,
@@ -43,6 +46,7 @@ pub enum Kind {
     Root,
     Mandatory,
     Optional,
+    /// OR, while `Or` is the mark `|`.
     OrGroup,
     Alternative,
     Constraint,

@@ -10,3 +10,6 @@ pub mod program;
 pub mod sections;
 
 pub use program::{Reading, read_program};
+
+#[cfg(test)]
+mod tests;

@@ -63,16 +63,13 @@ fn declarations(alloc: Global, tokens: &mut Cursor<'_>) -> Result<List<Declarati
 
 /// `(name)`.
 #[tactic(auto, unfolding(crate::specs::Readers::read_name_in_parens))]
-fn name_in_parens(
-    alloc: Global,
-    tokens: &mut Cursor<'_>,
-) -> Result<(Span, ((Text, Span), Span)), ReadError>
+fn name_in_parens(alloc: Global, tokens: &mut Cursor<'_>) -> Result<Text, ReadError>
     ensures { Gives (spec.read_name_in_parens tokens.old) result tokens.new }
 {
-    let open = tokens.expect(Kind::OpenParen)?;
-    let name = tokens.name(alloc)?;
-    let close = tokens.expect(Kind::CloseParen)?;
-    Ok((open, (name, close)))
+    tokens.expect(Kind::OpenParen)?;
+    let (name, _) = tokens.name(alloc)?;
+    tokens.expect(Kind::CloseParen)?;
+    Ok(name)
 }
 
 /// `init(name)` or `next(name)`.
@@ -81,7 +78,7 @@ pub fn left_side(alloc: Global, tokens: &mut Cursor<'_>) -> Result<LeftSide, Rea
     ensures { Gives (spec.read_left_side tokens.old) result tokens.new }
 {
     if let Some(at) = tokens.eat(Kind::Init) {
-        let (_, ((name, _), _)) = name_in_parens(alloc, tokens)?;
+        let name = name_in_parens(alloc, tokens)?;
         return Ok(LeftSide {
             left: Left::Init,
             name,
@@ -89,7 +86,7 @@ pub fn left_side(alloc: Global, tokens: &mut Cursor<'_>) -> Result<LeftSide, Rea
         });
     }
     let at = tokens.expect(Kind::Next)?;
-    let (_, ((name, _), _)) = name_in_parens(alloc, tokens)?;
+    let name = name_in_parens(alloc, tokens)?;
     Ok(LeftSide {
         left: Left::Next,
         name,

@@ -1,0 +1,157 @@
+use crate::cursor::Cursor;
+use crate::expression::{atom, right, simple};
+use crate::kind::Kind;
+use crate::program::stand;
+use crate::sections::{left_side, module, smv_type};
+use crate::{Reading, read_program};
+use smv_ast::{Expr, Fault, Left, Op, Section, SmvType};
+use std::alloc::Global;
+use std::test::Fail;
+
+/// Where the text is refused as Syntax, if it is.
+fn misfit(alloc: Global, text: &str) -> Option<u32> {
+    if text.len() > 1000 {
+        return None;
+    }
+    match read_program(alloc, 7, text.as_bytes()) {
+        Err(Fault::Syntax { at: Some(at) }) if at.file == 7 => Some(at.at),
+        _ => None,
+    }
+}
+
+#[test]
+fn offsets(rt: HostRuntime) -> Result<(), Fail> {
+    let texts = [
+        ("", 0),
+        ("MODULE", 6),
+        ("MODULE é", 7),
+        ("MODULE other", 0),
+        ("MODULE main VAR x 0..3;", 18),
+        ("MODULE main VAR x : 0..1234567890;", 23),
+        ("MODULE main VAR case : boolean;", 16),
+        ("MODULE main VAR x : boolean; @", 29),
+        ("MODULE main INVARSPEC x +", 25),
+        ("MODULE main INVARSPEC a & b | c", 28),
+        ("MODULE main ASSIGN next(x) := case TRUE : 1; esac", 49),
+        ("MODULE main ASSIGN x := 1;", 19),
+        ("MODULE main MODULE main", 12),
+    ];
+    for (text, offset) in texts {
+        assert_eq!(rt; misfit(rt.alloc(), text), Some(offset), "{text}");
+    }
+    Ok(())
+}
+
+#[test]
+fn accepted(rt: HostRuntime) -> Result<(), Fail> {
+    let texts = [
+        "MODULE main",
+        "MODULE main VAR ASSIGN VAR",
+        "MODULE main -- é (\r ASSIGN ?",
+        "-- first\nMODULE\tmain VAR x:0..123456789;\n-- last\nINVARSPEC x!=y$#_1 INVARSPEC TRUE;",
+    ];
+    for text in texts {
+        let length = text.len();
+        assert!(rt; length < 1000);
+        let read = read_program(rt.alloc(), 0, text.as_bytes());
+        assert!(rt; read.is_ok(), "{text}");
+    }
+    Ok(())
+}
+
+#[test]
+fn counter(rt: HostRuntime) -> Result<(), Fail> {
+    let text =
+        b"MODULE main VAR x : 0..3; ASSIGN init(x) := 0; next(x) := case x < 2 : x + 1; TRUE : x; esac; INVARSPEC x <= 2;";
+    let Ok(Reading { program, skipped }) = read_program(rt.alloc(), 3, text) else {
+        panic!(rt; "refused");
+    };
+    assert!(rt; skipped.is_empty());
+    let [module] = program.modules.as_slice() else {
+        panic!(rt; "one module");
+    };
+    assert!(rt; module.name.is("main"));
+    assert_eq!(rt; (module.at.file, module.at.at), (3, 0));
+    let [
+        Section::Vars(vars),
+        Section::Assigns(assigns),
+        Section::InvarSpec(Expr::Binary(Op::Le, _, _), spec),
+    ] = module.sections.as_slice()
+    else {
+        panic!(rt; "three sections");
+    };
+    assert_eq!(rt; spec.at, 94);
+    let [variable] = vars.as_slice() else {
+        panic!(rt; "one variable");
+    };
+    assert!(rt; variable.name.is("x"));
+    assert_eq!(rt; variable.at.at, 16);
+    let [first, next] = assigns.as_slice() else {
+        panic!(rt; "two assignments");
+    };
+    assert_eq!(rt; (first.left, first.at.at), (Left::Init, 33));
+    assert_eq!(rt; (next.left, next.at.at), (Left::Next, 47));
+    assert!(rt; matches!(&first.right, Expr::Number(0)));
+    let Expr::Cases(branches) = &next.right else {
+        panic!(rt; "cases");
+    };
+    assert_eq!(rt; branches.len(), 2);
+    Ok(())
+}
+
+#[test]
+fn cursor(rt: HostRuntime) -> Result<(), Fail> {
+    let text = b" x 12 + * MODULE";
+    let mut tokens = Cursor::new(1, text);
+    assert!(rt; tokens.sees(Kind::Name));
+    assert_eq!(rt; tokens.kind(), Some(Kind::Name));
+    let Ok((name, at)) = tokens.name(rt.alloc()) else {
+        panic!(rt; "a name");
+    };
+    assert!(rt; name.is("x"));
+    assert_eq!(rt; at.at, 1);
+    let Ok((twelve, _)) = tokens.numeral() else {
+        panic!(rt; "a numeral");
+    };
+    assert_eq!(rt; twelve, 12);
+    assert_eq!(rt;
+        tokens.eat_one_of(&[(Kind::Minus, 1u8), (Kind::Plus, 2)]),
+        Some(2)
+    );
+    assert!(rt; tokens.eat(Kind::Plus).is_none());
+    assert!(rt; tokens.eat(Kind::Star).is_some());
+    assert_eq!(rt; stand(&tokens, 1, text).at, 10);
+    let Ok(word) = tokens.expect(Kind::Module) else {
+        panic!(rt; "a word");
+    };
+    assert_eq!(rt; word.at, 10);
+    assert!(rt; tokens.is_at_end());
+    assert!(rt; tokens.place().is_none());
+    Ok(())
+}
+
+#[test]
+fn parts(rt: HostRuntime) -> Result<(), Fail> {
+    let alloc = rt.alloc();
+    let mut tokens = Cursor::new(0, b"7 a = b case a : 1; esac init(a) 2..5 MODULE m");
+    assert!(rt; matches!(atom(alloc, &mut tokens), Ok(Expr::Number(7))));
+    assert!(rt; matches!(simple(alloc, &mut tokens), Ok(Expr::Binary(Op::Eq, _, _))));
+    assert!(rt; matches!(right(alloc, &mut tokens), Ok(Expr::Cases(_))));
+    let Ok(side) = left_side(alloc, &mut tokens) else {
+        panic!(rt; "a left side");
+    };
+    assert!(rt; side.name.is("a"));
+    assert_eq!(rt; (side.left, side.at.at), (Left::Init, 25));
+    assert!(rt;
+        matches!(
+            smv_type(&mut tokens),
+            Ok(SmvType::Range { low: 2, high: 5 })
+        )
+    );
+    let Ok(empty) = module(alloc, &mut tokens) else {
+        panic!(rt; "a module");
+    };
+    assert!(rt; empty.name.is("m"));
+    assert!(rt; tokens.is_at_end());
+    Ok(())
+}
