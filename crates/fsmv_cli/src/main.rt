@@ -1,0 +1,40 @@
+//! The program `fsmv`: hands its words, the machine's files and its standard output to the top call, and ends
+//! with the number of the status.
+#![tactic(auto)]
+
+use fsmv_outside::{DiskFiles, StandardOut};
+use fsmv_top::{Status, run};
+use std::alloc::AllocError;
+use std::env;
+use std::io;
+use std::process::ExitCode;
+
+/// Where the machine does not give the words.
+const NO_WORDS: u8 = 9;
+
+/// The words after the program's name.
+fn words(rt: &HostRuntime) -> io::Result<Vec<String>> {
+    let mut words = Vec::new(rt.alloc());
+    for word in env::args(rt)?.skip(1) {
+        words.push(word)?;
+    }
+    Ok(words)
+}
+
+fn without_words(error: &io::Error) -> ExitCode {
+    match error.kind() {
+        io::ErrorKind::OutOfMemory => ExitCode::from(Status::NoMemory as u8),
+        _ => ExitCode::from(NO_WORDS),
+    }
+}
+
+fn main(rt: HostRuntime) -> ExitCode {
+    let words = match words(&rt) {
+        Ok(words) => words,
+        Err(error) => return without_words(&error),
+    };
+    let mut files = DiskFiles::new(&rt);
+    let mut out = StandardOut::new(&rt);
+    let status = run(rt.alloc(), words.as_slice(), &mut files, &mut out);
+    ExitCode::from(status as u8)
+}

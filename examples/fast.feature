@@ -1,0 +1,1 @@
+FEATURE Fast CHANGE MODULE main IF x = 2 THEN IMPOSE next(x) := 3; END
