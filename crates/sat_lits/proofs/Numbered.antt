@@ -1,5 +1,5 @@
 -- Items by their numbers, as lists grow and change.
-use Rattle.std.proofs.Common.{◌≡◌, ℕ, List, [], ◌∷◌, ◌++◌, Some, None, arith, refl, ◌<◌, ◌≤◌, ◌+◌, ◌⊎◌, inl, inr, length, set, slice_get, ap, zero, suc, add-one}
+use Rattle.std.proofs.Common.{◌≡◌, ℕ, List, [], ◌∷◌, ◌++◌, Some, None, arith, refl, ◌<◌, ◌≤◌, ◌+◌, ◌-◌, ◌⊎◌, inl, inr, length, set, slice_get, ap, zero, suc, add-one}
 use Rattle.std.proofs.lemmas.Option.{slice_get_within}
 use Rattle.sat_lits.specs.Steps.{numbered, replaced}
 
@@ -58,8 +58,27 @@ pub numbered-replaced_same : {X : Type 0} (xs : List X) (n : ℕ) (y x : X) → 
 numbered-replaced_same xs zero y x e = cc
 numbered-replaced_same xs (suc i) y x e = slice_get-set_same xs i y x e
 
+slice_get-set_none : {X : Type 0} (xs : List X) (i : ℕ) (x : X) → slice_get xs i ≡ None → slice_get (set xs i x) i ≡ None
+slice_get-set_none [] i x e = e
+slice_get-set_none (z ∷ xs) zero x e = cc
+slice_get-set_none (z ∷ xs) (suc i) x e = slice_get-set_none xs i x e
+
+-- where no item has the number, none has it afterwards
+pub numbered-replaced_none : {X : Type 0} (xs : List X) (n : ℕ) (x : X) → numbered xs n ≡ None → numbered (replaced xs n x) n ≡ None
+numbered-replaced_none xs zero x e = e
+numbered-replaced_none xs (suc i) x e = slice_get-set_none xs i x e
+
 -- the other items stay
 pub numbered-replaced_other : {X : Type 0} (xs : List X) (n m : ℕ) (x : X) → (m ≡ n → ⊥) → numbered (replaced xs n x) m ≡ numbered xs m
 numbered-replaced_other xs zero m x ne = refl
 numbered-replaced_other xs (suc i) zero x ne = refl
 numbered-replaced_other xs (suc i) (suc j) x ne = slice_get-set_other xs i j x (λ e. ne (ap suc e))
+
+-- numbers are places counted from 1
+pub numbered-place : {X : Type 0} (xs : List X) (n : ℕ) → 1 ≤ n → numbered xs n ≡ slice_get xs (n - 1)
+numbered-place xs zero positive = absurd (omega arith)
+numbered-place xs (suc i) positive = (let e : suc i - 1 ≡ i = omega arith in rw e refl)
+
+pub replaced-place : {X : Type 0} (xs : List X) (n : ℕ) (x : X) → 1 ≤ n → replaced xs n x ≡ set xs (n - 1) x
+replaced-place xs zero x positive = absurd (omega arith)
+replaced-place xs (suc i) x positive = (let e : suc i - 1 ≡ i = omega arith in rw e refl)

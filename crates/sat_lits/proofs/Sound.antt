@@ -54,8 +54,8 @@ AreTrue-denied values clause is_false l told =
     ] in
     subst (λ (m : ℕ). literal_true values m ≡ true) same (literal_true-negation values some.1 ∙ not_from_false (literal_true values some.1) literal_false)
 
--- the line under an id
-standing_line : (line : Option (Option (List ℕ))) (clause : List ℕ) → option_and_then (λ l. l) line ≡ Some clause → line ≡ Some (Some clause)
+-- an id that names a clause names a line that stands
+pub standing_line : (line : Option (Option (List ℕ))) (clause : List ℕ) → option_and_then (λ l. l) line ≡ Some clause → line ≡ Some (Some clause)
 standing_line None clause e = cc
 standing_line (Some line) clause e = ap Some e
 
