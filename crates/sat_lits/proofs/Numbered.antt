@@ -1,5 +1,5 @@
 -- Items by their numbers, as lists grow and change.
-use Rattle.std.proofs.Common.{◌≡◌, ℕ, List, [], ◌∷◌, ◌++◌, Some, None, arith, refl, ◌<◌, ◌≤◌, ◌+◌, ◌-◌, ◌⊎◌, inl, inr, length, set, slice_get, ap, zero, suc, add-one}
+use Rattle.std.proofs.Common.{◌≡◌, ℕ, List, map, [], ◌∷◌, ◌++◌, Some, None, arith, refl, ◌<◌, ◌≤◌, ◌+◌, ◌-◌, ◌⊎◌, inl, inr, length, set, slice_get, ap, zero, suc, add-one}
 use Rattle.std.proofs.lemmas.Option.{slice_get_within}
 use Rattle.sat_lits.specs.Steps.{numbered, replaced}
 
@@ -12,7 +12,7 @@ pub numbered_within : {X : Type 0} (xs : List X) (n : ℕ) (x : X) → numbered 
 numbered_within xs zero x e = cc
 numbered_within xs (suc i) x e = (let within : i < length xs = slice_get_within xs i x e in (omega arith, omega arith))
 
-slice_get-append : {X : Type 0} (xs ys : List X) (i : ℕ) (x : X) → slice_get xs i ≡ Some x → slice_get (xs ++ ys) i ≡ Some x
+pub slice_get-append : {X : Type 0} (xs ys : List X) (i : ℕ) (x : X) → slice_get xs i ≡ Some x → slice_get (xs ++ ys) i ≡ Some x
 slice_get-append [] ys i x e = cc
 slice_get-append (y ∷ xs) ys zero x e = e
 slice_get-append (y ∷ xs) ys (suc i) x e = slice_get-append xs ys i x e
@@ -22,7 +22,7 @@ pub numbered-append : {X : Type 0} (xs ys : List X) (n : ℕ) (x : X) → number
 numbered-append xs ys zero x e = cc
 numbered-append xs ys (suc i) x e = slice_get-append xs ys i x e
 
-slice_get-last : {X : Type 0} (xs : List X) (x : X) → slice_get (xs ++ x ∷ []) (length xs) ≡ Some x
+pub slice_get-last : {X : Type 0} (xs : List X) (x : X) → slice_get (xs ++ x ∷ []) (length xs) ≡ Some x
 slice_get-last [] x = refl
 slice_get-last (y ∷ xs) x = slice_get-last xs x
 
@@ -30,7 +30,7 @@ slice_get-last (y ∷ xs) x = slice_get-last xs x
 pub numbered-last : {X : Type 0} (xs : List X) (x : X) → numbered (xs ++ x ∷ []) (length xs + 1) ≡ Some x
 numbered-last xs x = rw add-one (slice_get-last xs x)
 
-slice_get-push : {X : Type 0} (xs : List X) (y x : X) (i : ℕ) → slice_get (xs ++ y ∷ []) i ≡ Some x → (slice_get xs i ≡ Some x) ⊎ ((i ≡ length xs) × (y ≡ x))
+pub slice_get-push : {X : Type 0} (xs : List X) (y x : X) (i : ℕ) → slice_get (xs ++ y ∷ []) i ≡ Some x → (slice_get xs i ≡ Some x) ⊎ ((i ≡ length xs) × (y ≡ x))
 slice_get-push [] y x zero e = inr (refl, cc)
 slice_get-push [] y x (suc i) e = absurd (cc)
 slice_get-push (z ∷ xs) y x zero e = inl e
@@ -41,12 +41,12 @@ pub numbered-push : {X : Type 0} (xs : List X) (y x : X) (n : ℕ) → numbered 
 numbered-push xs y x zero e = inl e
 numbered-push xs y x (suc i) e = elim (slice_get-push xs y x i e) [ inl old ↦ inl old | inr new ↦ inr (rw add-one (ap suc new.0), new.1) ]
 
-slice_get-set_same : {X : Type 0} (xs : List X) (i : ℕ) (y x : X) → slice_get xs i ≡ Some y → slice_get (set xs i x) i ≡ Some x
+pub slice_get-set_same : {X : Type 0} (xs : List X) (i : ℕ) (y x : X) → slice_get xs i ≡ Some y → slice_get (set xs i x) i ≡ Some x
 slice_get-set_same [] i y x e = cc
 slice_get-set_same (z ∷ xs) zero y x e = refl
 slice_get-set_same (z ∷ xs) (suc i) y x e = slice_get-set_same xs i y x e
 
-slice_get-set_other : {X : Type 0} (xs : List X) (i j : ℕ) (x : X) → (j ≡ i → ⊥) → slice_get (set xs i x) j ≡ slice_get xs j
+pub slice_get-set_other : {X : Type 0} (xs : List X) (i j : ℕ) (x : X) → (j ≡ i → ⊥) → slice_get (set xs i x) j ≡ slice_get xs j
 slice_get-set_other [] i j x ne = refl
 slice_get-set_other (z ∷ xs) zero zero x ne = absurd (ne refl)
 slice_get-set_other (z ∷ xs) zero (suc j) x ne = refl
@@ -82,3 +82,17 @@ numbered-place xs (suc i) positive = (let e : suc i - 1 ≡ i = omega arith in r
 pub replaced-place : {X : Type 0} (xs : List X) (n : ℕ) (x : X) → 1 ≤ n → replaced xs n x ≡ set xs (n - 1) x
 replaced-place xs zero x positive = absurd (omega arith)
 replaced-place xs (suc i) x positive = (let e : suc i - 1 ≡ i = omega arith in rw e refl)
+
+-- an item of a mapped list comes from one at the same place
+pub slice_get-map_from : {X Y : Type 0} (f : X → Y) (xs : List X) (i : ℕ) (y : Y) → slice_get (map f xs) i ≡ Some y → (x : X) × (slice_get xs i ≡ Some x) × (f x ≡ y)
+slice_get-map_from f [] i y e = cc
+slice_get-map_from f (x ∷ xs) zero y e = (x, refl, cc)
+slice_get-map_from f (x ∷ xs) (suc i) y e = slice_get-map_from f xs i y e
+
+-- functions that agree on the items map them to the same
+pub map_same : {X Y : Type 0} (f g : X → Y) (xs : List X) → ((i : ℕ) (x : X) → slice_get xs i ≡ Some x → f x ≡ g x) → map f xs ≡ map g xs
+map_same f g [] same = refl
+map_same f g (x ∷ xs) same =
+    let head : f x ≡ g x = same zero x refl in
+    let tail : map f xs ≡ map g xs = map_same f g xs (λ i y e. same (suc i) y e) in
+    cc

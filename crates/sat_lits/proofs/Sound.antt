@@ -11,6 +11,7 @@ use Rattle.smv_ast.specs.declared.proof.Id.TheVariants.{Axiom, Derived}
 use Rattle.sat_lits.specs.Literals.{negation, literal_true}
 use Rattle.sat_lits.specs.Clauses.{clause_true, Satisfies, Follows}
 use Rattle.sat_lits.specs.Steps.{numbered, named, with, denied, Refutes, IsRight, LinesFollow}
+use Rattle.sat_lits.proofs.Numbered.{numbered-append}
 use Rattle.sat_lits.proofs.Truth.{literal_true-negation}
 
 -- each literal that was made true is true under the values
@@ -84,6 +85,11 @@ Refutes-names names names' more (hint ∷ hints) known (clause, is, cases) = (
     | inr forced ↦ inr (forced.0, forced.1, Refutes-names names names' more hints (with known forced.0) forced.2)
   ],
 )
+
+-- more axioms name no less
+pub named-append : (axioms more : List (List ℕ)) (lines : List (Option (List ℕ))) (id : Id) (clause : List ℕ) → named axioms lines id ≡ Some clause → named (axioms ++ more) lines id ≡ Some clause
+named-append axioms more lines (Axiom n) clause is = numbered-append axioms more n clause is
+named-append axioms more lines (Derived n) clause is = is
 
 -- what follows from clauses follows from more of them
 pub Follows-append : (axioms more : List (List ℕ)) (clause : List ℕ) → Follows axioms clause → Follows (axioms ++ more) clause
