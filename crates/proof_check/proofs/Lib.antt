@@ -4,3 +4,4 @@ pub mod RefuteLemmas
 pub mod UnitEntryLemmas
 pub mod RoomLemmas
 pub mod RuleLemmas
+pub mod RedundantLemmas

@@ -72,3 +72,7 @@ Answers old line new (Bad number rule) =
     (number ≡ old.line)
     × (new ≡ record old { broken = Some rule })
     × MatchOption old.broken (Breaks old line rule) (λ earlier. rule ≡ earlier)
+
+-- what the old lines make redundant the new ones do too
+abbrev pub StaysRedundant : List (Option (List ℕ)) → List (Option (List ℕ)) → Type 0
+StaysRedundant old new = (clause : List ℕ) → IsRedundant old clause → IsRedundant new clause

@@ -41,7 +41,7 @@ impl Model for Checker {
 }
 
 impl Checker {
-    ghost use Rattle.proof_check.specs.Judged.{Answers, Finds, KeepsRules};
+    ghost use Rattle.proof_check.specs.Judged.{Answers, Finds, KeepsRules, StaysRedundant};
 
     /// A checker of a log over these axioms, which have numbers from 1. The first line of the log
     /// has the number `first`. More axioms than a `u32` can number count as memory that is not there.
@@ -70,6 +70,9 @@ impl Checker {
         ensures answer { IfOk result (Answers self.old line.now self.new) }
         ensures exact { IfOk result (λ answer. (answer ≡ StepAnswer.Ok) ↔ ((self.old.broken ≡ None) × KeepsRules self.old line.now)) }
         ensures follow { LinesFollow self.new.axioms self.new.lines }
+
+        // Whatever was derived stays redundant: no clause is derived twice, retired ones counted.
+        ensures once { IfOk result (λ _. StaysRedundant self.old.lines self.new.lines) }
         ensures err { OnErr result (self.new ≡ self.old) }
     {
         if let Some(rule) = self.broken {

@@ -42,6 +42,7 @@ fn checker(alloc: Global, axioms: &[&[i32]], first: u64) -> Result<Checker, Fail
 }
 
 const A1: Id = Id::Axiom(1);
+
 const A2: Id = Id::Axiom(2);
 
 /// The first line over two axioms, with each way to hint it.
@@ -58,7 +59,12 @@ fn first_steps(rt: HostRuntime) -> Result<(), Fail> {
         (unit, 1, [A1, A2, A2].as_slice(), bad(StepRule::Step)),
         (unit, 1, [A1, Id::Axiom(0)].as_slice(), bad(StepRule::Step)),
         (unit, 1, [A1, Id::Axiom(3)].as_slice(), bad(StepRule::Step)),
-        (unit, 1, [A1, Id::Derived(1)].as_slice(), bad(StepRule::Step)),
+        (
+            unit,
+            1,
+            [A1, Id::Derived(1)].as_slice(),
+            bad(StepRule::Step),
+        ),
         (unit, 2, [A1, A2].as_slice(), bad(StepRule::Number)),
         (falsum, 1, [A1, A2].as_slice(), bad(StepRule::Step)),
     ] {
@@ -89,9 +95,15 @@ fn retired_lines(rt: HostRuntime) -> Result<(), Fail> {
         LogLine::Retired(1),
     ];
     for (line, rule) in [
-        (derived(alloc, 3, &[2, 3], &[Id::Axiom(3), Id::Axiom(4)])?, StepRule::Repeat),
+        (
+            derived(alloc, 3, &[2, 3], &[Id::Axiom(3), Id::Axiom(4)])?,
+            StepRule::Repeat,
+        ),
         (derived(alloc, 3, &[2], &[A1, A2])?, StepRule::Repeat),
-        (derived(alloc, 3, &[3], &[Id::Derived(1), Id::Axiom(5)])?, StepRule::Step),
+        (
+            derived(alloc, 3, &[3], &[Id::Derived(1), Id::Axiom(5)])?,
+            StepRule::Step,
+        ),
         (LogLine::Retired(1), StepRule::Retire),
         (LogLine::Retired(2), StepRule::Retire),
         (LogLine::Retired(3), StepRule::Retire),
