@@ -1,0 +1,5 @@
+pub mod Marks
+pub mod Status
+pub mod UnitEntry
+pub mod Judged
+pub mod CheckerState

@@ -1,0 +1,14 @@
+//! A log of clauses, judged line by line against its axioms.
+#![tactic(auto)]
+
+mod checker;
+mod lines;
+mod marks;
+mod standing;
+mod steps;
+
+pub use checker::Checker;
+pub use lines::{DerivedLine, LogLine, StepAnswer, StepRule};
+
+#[cfg(test)]
+mod tests;

@@ -1,0 +1,3 @@
+pub mod Logged
+pub mod IsSound
+pub mod LogState

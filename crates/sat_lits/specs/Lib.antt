@@ -1,0 +1,4 @@
+pub mod Literals
+pub mod Clauses
+pub mod Table
+pub mod Steps
