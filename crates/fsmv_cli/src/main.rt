@@ -5,9 +5,8 @@
 use fsmv_outside::{DiskFiles, StandardOut};
 use fsmv_top::{Status, run};
 use std::alloc::AllocError;
-use std::env;
-use std::io;
 use std::process::ExitCode;
+use std::{env, io};
 
 /// Where the machine does not give the words.
 const NO_WORDS: u8 = 9;

@@ -18,6 +18,7 @@ use Rattle.fsmv_top.specs.declared.feature_text.ImposeText.{ImposeText}
 
 -- ---- the grammar, and the readers of its parts
 
+-- the parts of an IMPOSE that the tree keeps
 abbrev pub impose_of : Span × (LeftSide × (Span × (Expr × Span))) → ImposeText
 impose_of p = record { at = p.0; side = p.1.0; right = p.1.1.1.0 }
 
@@ -25,6 +26,7 @@ impose_of p = record { at = p.0; side = p.1.0; right = p.1.1.1.0 }
 abbrev pub impose_text : Lang ImposeText
 impose_text = made impose_of (both (word k.Impose) (both left_side (both (word k.Becomes) (both right (word k.Semicolon)))))
 
+-- reads an IMPOSE token by token
 unfoldable pub read_impose : Reader ImposeText
 read_impose = read_made impose_of (read_both (read_word k.Impose) (read_both read_left_side (read_both (read_word k.Becomes) (read_both read_right (read_word k.Semicolon)))))
 
@@ -38,9 +40,11 @@ change_of p =
 abbrev pub change_text : Lang Change
 change_text = made change_of (both (word k.Change) (both (word k.Module) (both name (both (word k.If) (both simple (both (word k.Then) impose_text))))))
 
+-- reads a change token by token
 unfoldable pub read_change : Reader Change
 read_change = read_made change_of (read_both (read_word k.Change) (read_both (read_word k.Module) (read_both read_name (read_both (read_word k.If) (read_both read_simple (read_both (read_word k.Then) read_impose))))))
 
+-- a feature of one change requires and introduces nothing
 abbrev pub feature_of : Span × ((Bytes × Span) × (Change × Span)) → Feature
 feature_of p = record { name = p.1.0.0; needs = []; joins = []; changes = p.1.1.0 ∷ []; at = p.0 }
 
@@ -48,6 +52,7 @@ feature_of p = record { name = p.1.0.0; needs = []; joins = []; changes = p.1.1.
 abbrev pub feature_text : Lang Feature
 feature_text = made feature_of (both (word k.Feature) (both name (both change_text (word k.End))))
 
+-- reads a feature token by token
 unfoldable pub read_feature : Reader Feature
 read_feature = read_made feature_of (read_both (read_word k.Feature) (read_both read_name (read_both read_change (read_word k.End))))
 
@@ -75,6 +80,7 @@ ExplainsFeature file bytes (fault.Syntax at) = (place : Span) × (at ≡ Some pl
 ExplainsFeature file bytes fault.NoMemory = Unit {0}
 ExplainsFeature file bytes _ = ⊥
 
+-- what the reader of a feature answers of a file
 abbrev pub FeatureAnswers : ℕ → Bytes → Result Feature Fault → Type 0
 FeatureAnswers file bytes (Ok f) = AcceptsFeature file bytes f
 FeatureAnswers file bytes (Err f) = ExplainsFeature file bytes f

@@ -35,6 +35,7 @@ use Rattle.fsmv_top.specs.UsedNames.{declarations}
 abbrev pub guarded : Expr → Expr → Expr → Expr
 guarded cond value old = expr.Cases (roll-Branch (record { cond = cond; value = value }) ∷ roll-Branch (record { cond = expr.True; value = old }) ∷ [])
 
+-- the same time: the first value, the next, or that of every state
 unfoldable pub same_left : Left → Left → Bool
 same_left = sameb the_type
 
@@ -42,6 +43,7 @@ same_left = sameb the_type
 abbrev pub has_left : Left → List ℕ → Assignment → Bool
 has_left left name a = same_left a.left left && bytes_eq a.name name
 
+-- the assignment with its right side guarded
 abbrev pub guarded_assignment : Imposed → Assignment → Assignment
 guarded_assignment i a = record a { right = guarded i.cond i.right a.right }
 
@@ -57,10 +59,12 @@ guarded_section i s = s
 
 -- ---- where none stands
 
+-- a number of a type as an expression; one past the last value of a u32, which no model holds, is cut to it
 abbrev pub number : ℤ → Expr
 number (pos n) = expr.Number (min n (2 ^ 32 - 1))
 number (negsuc n) = expr.Neg (expr.Number (min (n + 1) (2 ^ 32 - 1)))
 
+-- a symbol of a type as an expression
 abbrev pub symbol : Span → List ℕ → Expr
 symbol at name = expr.Name (record { names = name ∷ []; at = at })
 
@@ -76,10 +80,12 @@ abbrev pub plain_type : Declared → Option SmvType
 plain_type (Plain t) = Some t
 plain_type (Instance name actuals) = None
 
+-- whether the section is an ASSIGN section
 abbrev pub is_assigns : Section → Bool
 is_assigns (section.Assigns assignments) = true
 is_assigns s = false
 
+-- the ASSIGN section with the assignment at its end
 abbrev pub one_more : Section → Assignment → Section
 one_more (section.Assigns assignments) a = section.Assigns (assignments ++ a ∷ [])
 one_more s a = s
@@ -93,10 +99,12 @@ with_assignment (s ∷ more) a = if is_assigns s && not (list_any is_assigns mor
 abbrev pub kept_assignment : Imposed → Choice → Assignment
 kept_assignment i values = record { left = i.left; name = i.name; right = guarded i.cond i.right (expr.Pick values); at = i.at }
 
+-- the sections with an assignment of the type's values appended; none where the name has no type
 abbrev pub with_new : Imposed → List Section → Option SmvType → List Section
 with_new i sections None = sections
 with_new i sections (Some t) = with_assignment sections (kept_assignment i (all_values i.at t))
 
+-- the type of a variable: that of its first declaration
 abbrev pub type_of : List ℕ → List Section → Option SmvType
 type_of name sections = option_and_then (λ d. plain_type d.what) (find (λ d. bytes_eq name d.name) (declarations sections))
 
@@ -109,9 +117,11 @@ imposed_on i sections =
     if list_any (assigns i.left i.name) sections then change_first (assigns i.left i.name) (guarded_section i) sections
     else with_new i sections (type_of i.name sections)
 
+-- the module with the IMPOSE applied
 abbrev pub imposed_in : Imposed → Module → Module
 imposed_in i m = record m { sections = imposed_on i m.sections }
 
+-- whether the module has the name
 abbrev pub is_named : List ℕ → Module → Bool
 is_named name m = bytes_eq name m.name
 

@@ -55,11 +55,13 @@ pub record MissesName (base : Program) (feature : Feature) (product : List ℕ) 
   pub first : missing_name base feature ≡ Some missing
   pub told : f ≡ missing_fault feature missing
 
+-- no text of the product: a name is missing
 abbrev pub StopsIntegrating : Program → Feature → List ℕ → Stop → Type 0
 StopsIntegrating base feature product (stop.Refused f) = MissesName base feature product f
 StopsIntegrating base feature product (stop.Unread number) = ⊥
 StopsIntegrating base feature product stop.NoMemory = Unit {0}
 
+-- the text of the product, or why there is none
 abbrev pub Integrates : Program → Feature → List ℕ → Result Program Stop → Type 0
 Integrates base feature product (Ok p) = IsIntegrated base feature product p
 Integrates base feature product (Err s) = StopsIntegrating base feature product s

@@ -29,10 +29,12 @@ abbrev pub all_of : List (List Path) → List Path
 all_of [] = []
 all_of (paths ∷ more) = paths ++ all_of more
 
+-- the paths of a set of values, of those of its parts
 abbrev pub choice_paths_layer : Choice-F (List Path) (List Path) (List Path) → List Path
 choice_paths_layer (Choice-F.Each parts) = all_of parts
 choice_paths_layer (Choice-F.Between low high) = []
 
+-- the paths of an expression, of those of its parts
 abbrev pub expr_paths_layer : Expr-F (List Path) (List Path) (List Path) → List Path
 expr_paths_layer Expr-F.True = []
 expr_paths_layer Expr-F.False = []
@@ -46,15 +48,19 @@ expr_paths_layer (Expr-F.Cases branches) = all_of branches
 expr_paths_layer (Expr-F.Next a) = a
 expr_paths_layer (Expr-F.Pick choice) = choice
 
+-- the paths of a branch: those of its condition, then those of its value
 abbrev pub branch_paths_layer : Branch-F (List Path) (List Path) (List Path) → List Path
 branch_paths_layer branch = branch.cond ++ branch.value
 
+-- layer by layer, the parts first
 abbrev pub paths_of : Expr → List Path
 paths_of = fold-Expr (List Path) (List Path) (List Path) choice_paths_layer expr_paths_layer branch_paths_layer
 
+-- the paths of a set of values
 abbrev pub choice_paths : Choice → List Path
 choice_paths = fold-Choice (List Path) (List Path) (List Path) choice_paths_layer expr_paths_layer branch_paths_layer
 
+-- the paths of a branch
 abbrev pub branch_paths : Branch → List Path
 branch_paths = fold-Branch (List Path) (List Path) (List Path) choice_paths_layer expr_paths_layer branch_paths_layer
 
@@ -68,6 +74,7 @@ pointed = map (λ path. path.now)
 abbrev pub target : Span → List ℕ → Path
 target at name = record { names = name ∷ []; at = at }
 
+-- the paths of an action: its target, then those of its right side
 abbrev pub paths_of_action : Span → Action → List Path
 paths_of_action at (Impose left name right) = target at name ∷ paths_of right
 paths_of_action at (Treat path right) = path ∷ paths_of right
@@ -91,6 +98,7 @@ declarations_of s = []
 abbrev pub declarations : List Section → List Declaration
 declarations = flat_map declarations_of
 
+-- the names of the variables that the sections declare
 abbrev pub variables : List Section → List (List ℕ)
 variables sections = map (λ d. d.name) (declarations sections)
 
@@ -114,6 +122,7 @@ is_known knows (name ∷ second ∷ more) = false
 abbrev pub missing_path : Path → MissingName
 missing_path path = record { name = joined (codes ".") path.names; at = path.at }
 
+-- the first path that is not known
 abbrev pub first_unknown : (List ℕ → Bool) → List Path → Option Path
 first_unknown knows = find (λ path. not (is_known knows path.names))
 

@@ -31,13 +31,16 @@ abbrev pub missing_in_changes : (List ℕ → Bool) → List Change → Option M
 missing_in_changes knows [] = None
 missing_in_changes knows (change ∷ more) = option_or (first_missing knows change) (missing_in_changes knows more)
 
+-- the first name that the feature uses and that is no variable of `main`
 abbrev pub missing_name : Program → Feature → Option MissingName
 missing_name base f = missing_in_changes (is_among (variables (main_sections base))) f.changes
 
+-- an IMPOSE applied to the module that its change names; TREAT is not integrated yet
 abbrev pub apply_action : Change → Action → Program → Program
 apply_action change (Impose left name right) p = imposed (record { cond = change.cond; left = left; name = name; right = right; at = change.at }) change.«module» p
 apply_action change (Treat path right) p = p
 
+-- one change applied
 abbrev pub apply_change : Program → Change → Program
 apply_change p change = apply_action change change.action p
 

@@ -9,6 +9,7 @@ use Rattle.proof_log.specs.Logged.{Logged, standing, standing_at}
 abbrev pub clauses : List Line → List (List ℕ)
 clauses lines = map (λ line. line.clause) lines
 
+-- every log keeps this, whatever was called before
 pub record IsSound (log : Logged) : Type 0 where
   -- each line is right over the axioms and the lines that stood before it
   pub right : (i : ℕ) (line : Line) → slice_get log.lines i ≡ Some line → IsRight log.axioms (standing_at i log.lines) line.clause line.hints

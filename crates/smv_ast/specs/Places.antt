@@ -27,19 +27,24 @@ unplaced_layer e = e
 abbrev pub unplaced_expr : Expr → Expr
 unplaced_expr = fold-Expr Choice Expr Branch roll-Choice (λ e. roll-Expr (unplaced_layer e)) roll-Branch
 
+-- the same of what a declaration declares
 abbrev pub unplaced_declared : Declared → Declared
 unplaced_declared (Plain type) = Plain type
 unplaced_declared (Instance name actuals) = Instance name (map unplaced_expr actuals)
 
+-- the same of a declaration
 abbrev pub unplaced_declaration : Declaration → Declaration
 unplaced_declaration d = record d { what = unplaced_declared d.what; at = nowhere }
 
+-- the same of an assignment
 abbrev pub unplaced_assignment : Assignment → Assignment
 unplaced_assignment a = record a { right = unplaced_expr a.right; at = nowhere }
 
+-- the same of a definition
 abbrev pub unplaced_definition : Definition → Definition
 unplaced_definition d = record d { right = unplaced_expr d.right; at = nowhere }
 
+-- the same of a section
 abbrev pub unplaced_section : Section → Section
 unplaced_section (section.Vars declarations) = section.Vars (map unplaced_declaration declarations)
 unplaced_section (section.Assigns assignments) = section.Assigns (map unplaced_assignment assignments)
@@ -49,6 +54,7 @@ unplaced_section (section.Invar e at) = section.Invar (unplaced_expr e) nowhere
 unplaced_section (section.Trans e at) = section.Trans (unplaced_expr e) nowhere
 unplaced_section (section.InvarSpec e at) = section.InvarSpec (unplaced_expr e) nowhere
 
+-- the same of a module
 abbrev pub unplaced_module : Module → Module
 unplaced_module m = record m { sections = map unplaced_section m.sections; at = nowhere }
 

@@ -99,9 +99,11 @@ expr_layer (Expr-F.Pick choice) = open_piece choice
 abbrev pub piece_of : Expr → Piece
 piece_of = fold-Expr (List ℕ) Piece (List ℕ) choice_layer expr_layer branch_layer
 
+-- the canonical text of a set of values
 abbrev pub printed_choice : Choice → List ℕ
 printed_choice = fold-Choice (List ℕ) Piece (List ℕ) choice_layer expr_layer branch_layer
 
+-- the canonical text of a branch
 abbrev pub printed_branch : Branch → List ℕ
 printed_branch = fold-Branch (List ℕ) Piece (List ℕ) choice_layer expr_layer branch_layer
 

@@ -10,8 +10,10 @@ abbrev pub IsNext : Bytes → Option Lexeme → Type 0
 IsNext text None = text ≡ []
 IsNext text (Some next) = (next ≡ first_lexeme text) × (same_kind next.kind k.Space ≡ false) × (0 < length text)
 
+-- the tokens from the next one on
 abbrev pub tokens_left : Inside → List Token
 tokens_left c = tokens_from c.file c.at c.rest.now
 
+-- what a cursor keeps of its next token
 abbrev pub IsReady : Inside → Type 0
 IsReady c = (c.at + length c.rest.now < 2 ^ 32) × IsNext c.rest.now c.next

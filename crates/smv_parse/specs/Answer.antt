@@ -63,6 +63,7 @@ Explains file bytes (fault.Syntax at) = (place : Span) × (at ≡ Some place) ×
 Explains file bytes fault.NoMemory = Unit {0}
 Explains file bytes _ = ⊥
 
+-- what the reader of models answers of a file
 abbrev pub Answers : ℕ → Bytes → Result Reading Fault → Type 0
 Answers file bytes (Ok reading) = Accepts file bytes reading
 Answers file bytes (Err f) = Explains file bytes f

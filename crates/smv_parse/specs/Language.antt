@@ -5,18 +5,22 @@ use Rattle.smv_parse.specs.declared.kind.Kind.{Kind}
 use Rattle.smv_parse.specs.declared.kind.Kind.TheVariants as k
 use Rattle.smv_parse.specs.Lexicon.{Bytes, Token, numeral_value, same_kind}
 
+-- what a language speaks of
 abbrev pub Tokens : Type 0
 Tokens = List Token
 
+-- a language says which lists of tokens stand for which value
 abbrev pub Lang : Type 0 → Type 1
 Lang A = A → Tokens → Type 0
 
 -- ---- kinds
 
+-- whether the kind is in the list
 abbrev pub has : List Kind → Kind → Bool
 has [] kind = false
 has (one ∷ more) kind = same_kind kind one || has more kind
 
+-- the kinds of a table
 abbrev pub kinds_of : {A : Type 0} → List (Kind × A) → List Kind
 kinds_of table = map (λ entry. entry.0) table
 
@@ -35,18 +39,23 @@ leaf f a ts = (t : Token) × (ts ≡ t ∷ []) × (f t ≡ Some a)
 abbrev pub of_kind : {A : Type 0} → Kind → (Token → A) → Token → Option A
 of_kind kind f t = if has (kind ∷ []) t.kind then Some (f t) else None
 
+-- the kind of a token
 abbrev pub kind_of : Token → Kind
 kind_of t = t.kind
 
+-- the place of a token
 abbrev pub place_of : Token → Span
 place_of t = t.at
 
+-- the spelling of a token
 abbrev pub text_of : Token → Bytes
 text_of t = t.text
 
+-- the value of a name: its spelling and its place
 abbrev pub name_of : Token → Bytes × Span
 name_of t = (t.text, t.at)
 
+-- the value of a numeral: its number and its place
 abbrev pub number_of : Token → ℕ × Span
 number_of t = (numeral_value t.text, t.at)
 

@@ -10,6 +10,7 @@ use Rattle.smv_parse.specs.declared.kind.Kind.{Kind}
 use Rattle.smv_parse.specs.declared.kind.Kind.TheVariants as k
 use Rattle.smv_parse.specs.declared.lexeme.Lexeme.{Lexeme}
 
+-- the bytes of a text
 abbrev pub Bytes : Type 0
 Bytes = List ℕ
 
@@ -19,9 +20,11 @@ Bytes = List ℕ
 abbrev pub is_blank : ℕ → Bool
 is_blank b = b == 32 || (b == 9 || (b == 13 || (b == 10 || b == 12)))
 
+-- a letter or `_`, with which a name begins
 abbrev pub is_letter : ℕ → Bool
 is_letter b = (nat_le 97 b && nat_le b 122) || ((nat_le 65 b && nat_le b 90) || b == 95)
 
+-- a decimal digit
 abbrev pub is_digit : ℕ → Bool
 is_digit b = nat_le 48 b && nat_le b 57
 
@@ -90,11 +93,13 @@ word_lexeme text =
 abbrev pub numeral_kind : ℕ → Kind
 numeral_kind digits = if nat_le digits 9 then k.Numeral else k.WideNumeral
 
+-- a run of digits, as long as it goes
 unfoldable pub numeral_lexeme : Bytes → Lexeme
 numeral_lexeme text =
     let digits = length (take_while is_digit text) in
     record { kind = numeral_kind digits; len = digits }
 
+-- the longest mark that stands there
 unfoldable pub mark_lexeme : Bytes → Lexeme
 mark_lexeme text = find_mark marks text
 
@@ -102,6 +107,7 @@ mark_lexeme text = find_mark marks text
 abbrev pub begins_comment : Bytes → Bool
 begins_comment text = starts_with nat_eq text (codes "--")
 
+-- white space, a comment, a word, a numeral or a mark
 unfoldable pub first_lexeme : Bytes → Lexeme
 first_lexeme [] = record { kind = k.Unknown; len = 1 }
 first_lexeme (b ∷ more) =
@@ -118,6 +124,7 @@ pub record Token : Type 0 where
   pub at : Span
   pub text : Bytes
 
+-- whether two kinds are one
 unfoldable pub same_kind : Kind → Kind → Bool
 same_kind = sameb the_type
 
@@ -131,6 +138,7 @@ tokens_in zero file at (b ∷ more) =
     if same_kind next.kind k.Space then behind
     else record { kind = next.kind; at = record { file = file; at = at }; text = take next.len (b ∷ more) } ∷ behind
 
+-- the tokens of a text that stands at an offset of a file
 abbrev pub tokens_from : ℕ → ℕ → Bytes → List Token
 tokens_from file at text = tokens_in zero file at text
 

@@ -18,43 +18,54 @@ pub data Outcome (A : Type 0) : Type 0 where
   Read : A → Tokens → Outcome A
   Stop : Cause → Tokens → Outcome A
 
+-- a reader takes tokens from the front of a list
 abbrev pub Reader : Type 0 → Type 0
 Reader A = Tokens → Outcome A
 
+-- goes on with what was read; a stop stays
 abbrev pub and_then : {A B : Type 0} → Outcome A → (A → Reader B) → Outcome B
 and_then (Read a rest) f = f a rest
 and_then (Stop cause rest) f = Stop cause rest
 
 -- ---- single tokens
 
+-- the value of the next token, where it has one; else it does not fit
 abbrev pub read_if : {A : Type 0} → Option A → Tokens → Tokens → Outcome A
 read_if None ts rest = Stop Misfit ts
 read_if (Some a) ts rest = Read a rest
 
+-- one token that has a value
 abbrev pub read_leaf : {A : Type 0} → (Token → Option A) → Reader A
 read_leaf f [] = Stop Misfit []
 read_leaf f (t ∷ ts) = read_if (f t) (t ∷ ts) ts
 
+-- one token of this kind, with its place
 abbrev pub read_word : Kind → Reader Span
 read_word kind = read_leaf (of_kind kind place_of)
 
+-- a name, with its spelling and its place
 abbrev pub read_name : Reader (Bytes × Span)
 read_name = read_leaf (of_kind k.Name name_of)
 
+-- a numeral, with its number and its place
 abbrev pub read_numeral : Reader (ℕ × Span)
 read_numeral = read_leaf (of_kind k.Numeral number_of)
 
+-- one token of a table, with what stands beside its kind
 abbrev pub read_one_of : {A : Type 0} → List (Kind × A) → Reader A
 read_one_of table = read_leaf (λ t. find_kind table t.kind)
 
 -- ---- readers out of readers
 
+-- the one, and then the other, which depends on the value of the one
 abbrev pub read_dep : {A B : Type 0} → Reader A → (A → Reader B) → Reader (A × B)
 read_dep p q ts = and_then (p ts) (λ a rest. and_then (q a rest) (λ b rest'. Read (a, b) rest'))
 
+-- the one, and then the other
 abbrev pub read_both : {A B : Type 0} → Reader A → Reader B → Reader (A × B)
 read_both p q = read_dep p (λ a. q)
 
+-- with the value that a function makes
 abbrev pub read_made : {A B : Type 0} → (A → B) → Reader A → Reader B
 read_made f p ts = and_then (p ts) (λ a rest. Read (f a) rest)
 
@@ -62,9 +73,11 @@ read_made f p ts = and_then (p ts) (λ a rest. Read (f a) rest)
 abbrev pub read_either : {A : Type 0} → List Kind → Reader A → Reader A → Reader A
 read_either set p q ts = if begins set ts then p ts else q ts
 
+-- no token, for this value
 abbrev pub read_nothing : {A : Type 0} → A → Reader A
 read_nothing a ts = Read a ts
 
+-- one, where one of these kinds comes, or none
 abbrev pub read_opt : {A : Type 0} → List Kind → Reader A → Reader (Option A)
 read_opt set p = read_either set (read_made Some p) (read_nothing None)
 
@@ -77,9 +90,11 @@ read_turns (suc n) set p step b ts = if begins set ts then and_then (p ts) (λ a
 unfoldable pub read_fold : {A B : Type 0} → List Kind → Reader A → (B → A → B) → B → Reader B
 read_fold set p step b ts = read_turns (length ts) set p step b ts
 
+-- the list with one more at its end
 abbrev pub pushed : {A : Type 0} → List A → A → List A
 pushed found a = found ++ a ∷ []
 
+-- any number of them, as long as one of these kinds comes
 abbrev pub read_many : {A : Type 0} → List Kind → Reader A → Reader (List A)
 read_many set p = read_fold set p pushed []
 
