@@ -3,7 +3,7 @@ use Rattle.std.proofs.Common.{ℕ, [], ◌∷◌, refl}
 use Rattle.smv_parse.specs.declared.kind.Kind.TheVariants as k
 use Rattle.smv_parse.specs.Lexicon.{same_kind}
 use Rattle.smv_parse.proofs.Rules.{Rule}
-use Rattle.smv_parse.proofs.Words.{always, tok, tok_name, seq, after, before, map, starts_word, starts_dep, starts_made, leaves_start, leaves_all}
+use Rattle.smv_parse.proofs.Words.{always, tok_name, seq, after, before, map, starts_word, starts_dep, leaves_start, leaves_all}
 use Rattle.smv_parse.proofs.ExpressionRules.{goes_simple, simple_rule, right_rule}
 use Rattle.smv_parse.proofs.SectionRules.{left_side_rule}
 use Rattle.fsmv_top.specs.FeatureText.{impose_of, impose_text, read_impose, change_of, change_text, read_change, feature_of, feature_text, read_feature}

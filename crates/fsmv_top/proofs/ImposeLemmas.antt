@@ -1,5 +1,5 @@
 -- An IMPOSE by the place of the section that it changes.
-use Rattle.std.proofs.Common.{◌≡◌, Bool, true, false, cond, List, Option, Some, None, sym, ◌∙◌, ap, ℕ}
+use Rattle.std.proofs.Common.{◌≡◌, cond, List, Option, Some, None, sym, ◌∙◌, ap, ℕ}
 use Rattle.std.specs.Option.{is_some}
 use Rattle.smv_ast.specs.declared.program.Section.{Section}
 use Rattle.fsmv_top.specs.declared.integration.impose.Imposed.{Imposed}

@@ -1,5 +1,5 @@
 -- The first item that passes a test: its place, and the list with it changed.
-use Rattle.std.proofs.Common.{◌≡◌, ◌<◌, ◌+◌, ℕ, suc, Bool, true, false, ◌||◌, cond, List, [], ◌∷◌, ◌++◌, length, Option, Some, None, refl, sym, ◌∙◌, ap, arith, append_assoc}
+use Rattle.std.proofs.Common.{◌≡◌, ◌<◌, ℕ, suc, Bool, true, false, ◌||◌, cond, List, [], ◌∷◌, ◌++◌, length, Option, Some, None, refl, sym, ◌∙◌, ap, arith, append_assoc}
 use Rattle.std.specs.Option.{option_map, is_some}
 use Rattle.std.specs.List.{list_any}
 use Rattle.fsmv_top.specs.Lists.{first_place, change_first}

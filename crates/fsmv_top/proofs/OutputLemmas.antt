@@ -1,5 +1,5 @@
 -- A text that is written piece by piece: what is written so far, a line, and what is left.
-use Rattle.std.proofs.Common.{◌≡◌, ◌≤◌, ◌-◌, ◌+◌, ℕ, List, ◌++◌, length, take, drop, Option, refl, sym, ◌∙◌, ap, subst, append_assoc, length-append, arith}
+use Rattle.std.proofs.Common.{◌≡◌, ◌≤◌, ◌-◌, ℕ, List, ◌++◌, length, take, drop, Option, refl, sym, ◌∙◌, ap, subst, append_assoc, length-append, arith}
 use Rattle.std.proofs.lemmas.List.{take-append-drop, take_at, drop_at}
 use Rattle.fsmv_outside.specs.Writing.{with_piece, WritesFront}
 use Rattle.fsmv_outside.proofs.WrittenText.{with_piece_more, WritesFront_more, WritesFront_longer}

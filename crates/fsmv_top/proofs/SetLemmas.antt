@@ -1,5 +1,5 @@
 -- A set of names after one more.
-use Rattle.std.proofs.Common.{◌≡◌, ℕ, List, Bool, true, false, ◌∷◌, ◌||◌, cond, map, refl, sym, ◌∙◌, ap, Decides}
+use Rattle.std.proofs.Common.{◌≡◌, ℕ, List, Bool, true, false, ◌∷◌, ◌||◌, cond, map, refl, sym, ◌∙◌, ap}
 use Rattle.std.specs.Str.{bytes_eq}
 use Rattle.std.specs.HashSet.{Updates}
 use Rattle.std.proofs.lemmas.Slice.Eq.{bytes_eq-Decides}

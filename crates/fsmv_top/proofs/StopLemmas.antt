@@ -5,7 +5,7 @@ use Rattle.smv_ast.specs.declared.feature.Feature.{Feature}
 use Rattle.smv_parse.specs.Lexicon.{Bytes}
 use Rattle.fsmv_top.specs.declared.weave.Stop.{Stop}
 use Rattle.fsmv_top.specs.declared.weave.Stop.TheVariants as stop
-use Rattle.fsmv_top.specs.Weaving.{HoldsBase, HoldsFeature, IsRefused}
+use Rattle.fsmv_top.specs.Weaving.{HoldsBase, HoldsFeature}
 use Rattle.fsmv_top.specs.Weaving.IsRefused.{name_missing}
 use Rattle.fsmv_top.specs.Stops.{StopsIntegrating, StopsWeaving}
 

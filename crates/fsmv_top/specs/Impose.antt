@@ -1,6 +1,6 @@
 -- Applying one IMPOSE to a module: `IF c THEN IMPOSE next(x) := e` makes `next(x)` the value of `e` where `c` is true,
 -- and leaves it as it was elsewhere.
-use Rattle.std.specs.Prelude.{ℕ, ◌+◌, Bool, true, false, ◌&&◌, not, List, [], ◌∷◌, ◌++◌, Option, Some, None, if◌then◌else◌, map, find, codes, ℤ, pos, negsuc, min, ◌-◌, ◌^◌}
+use Rattle.std.specs.Prelude.{ℕ, ◌+◌, Bool, true, false, ◌&&◌, not, List, [], ◌∷◌, ◌++◌, Option, Some, None, if◌then◌else◌, map, find, ℤ, pos, negsuc, min, ◌-◌, ◌^◌}
 use Rattle.std.specs.List.{list_any}
 use Rattle.std.specs.Option.{option_and_then}
 use Rattle.std.specs.Str.{bytes_eq}
@@ -13,7 +13,7 @@ use Rattle.smv_ast.specs.declared.syntax.Expr.{Expr}
 use Rattle.smv_ast.specs.declared.syntax.Expr.TheVariants as expr
 use Rattle.smv_ast.specs.declared.syntax.Choice.{Choice}
 use Rattle.smv_ast.specs.declared.syntax.Choice.TheVariants as choice
-use Rattle.smv_ast.specs.declared.syntax.Branch.{Branch, roll-Branch}
+use Rattle.smv_ast.specs.declared.syntax.Branch.{roll-Branch}
 use Rattle.smv_ast.specs.declared.program.Left.{Left}
 use Rattle.smv_ast.specs.declared.program.Declared.{Declared}
 use Rattle.smv_ast.specs.declared.program.Declared.TheVariants.{Plain, Instance}
@@ -22,9 +22,6 @@ use Rattle.smv_ast.specs.declared.program.Section.{Section}
 use Rattle.smv_ast.specs.declared.program.Section.TheVariants as section
 use Rattle.smv_ast.specs.declared.program.Module.{Module}
 use Rattle.smv_ast.specs.declared.program.Program.{Program}
-use Rattle.smv_ast.specs.declared.feature.Action.{Action}
-use Rattle.smv_ast.specs.declared.feature.Action.TheVariants.{Impose, Treat}
-use Rattle.smv_ast.specs.declared.feature.Change.{Change}
 use Rattle.fsmv_top.specs.declared.integration.impose.Imposed.{Imposed}
 use Rattle.fsmv_top.specs.Lists.{change_first}
 use Rattle.fsmv_top.specs.UsedNames.{declarations}

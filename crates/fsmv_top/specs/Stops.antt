@@ -5,15 +5,13 @@ use Rattle.smv_ast.specs.declared.program.Program.{Program}
 use Rattle.smv_ast.specs.declared.feature.Feature.{Feature}
 use Rattle.smv_ast.specs.declared.fault.Fault.{Fault}
 use Rattle.smv_parse.specs.Lexicon.{Bytes}
-use Rattle.smv_parse.specs.Answer.{Refuses}
 use Rattle.fsmv_outside.specs.Count.{Rose}
 use Rattle.smv_ast.specs.declared.fault.Fault.TheVariants as fault
 use Rattle.fsmv_top.specs.declared.integration.names.MissingName.{MissingName}
 use Rattle.fsmv_top.specs.Words.{lists}
 use Rattle.fsmv_top.specs.declared.weave.Stop.{Stop}
 use Rattle.fsmv_top.specs.declared.weave.Stop.TheVariants as stop
-use Rattle.fsmv_top.specs.FeatureText.{RefusesFeature}
-use Rattle.fsmv_top.specs.Weaving.{most_bytes, MayHold, IsTooLong, IsMisread, HoldsBase, HoldsFeature, IsRefused, IsUnread, missing_name, missing_fault, integrated}
+use Rattle.fsmv_top.specs.Weaving.{most_bytes, MayHold, IsTooLong, IsMisread, IsRefused, IsUnread, missing_name, missing_fault, integrated}
 
 -- these are the file's bytes
 pub record IsRead (told : Option Bytes) (bytes : Bytes) : Type 0 where

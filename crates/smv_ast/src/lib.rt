@@ -13,7 +13,7 @@ mod text;
 pub use fault::{Fault, NoMemory};
 pub use feature::{Action, Change, Family, Feature, Joined, Lifted, Need, OwnedSpec, OwnedVar};
 pub use model::{FeatureModel, GroupKind, Literal, ModelLine, Product};
-pub use printing::print_program;
+pub use printing::{print_joined, print_program};
 pub use program::{
     Assignment, Declaration, Declared, Definition, Left, Module, Program, Section, Skipped,
 };

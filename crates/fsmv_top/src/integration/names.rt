@@ -2,11 +2,12 @@
 
 ghost use Rattle.std.specs.Prelude.{◌≡◌, ℕ, ◌++◌, ◌∷◌, [], List, IfOk, OnOk, map, codes, None, ◌||◌};
 ghost use Rattle.std.specs.Option.{option_copied, option_map};
-ghost use Rattle.smv_ast.specs.PrintedExpr.{joined, each_after};
+ghost use Rattle.smv_ast.specs.PrintedExpr.{joined};
 ghost use Rattle.fsmv_top.specs.UsedNames as spec;
 
 use smv_ast::{
     Action, Branch, Change, Choice, Declaration, Expr, List, NoMemory, Path, Section, Span, Text,
+    print_joined,
 };
 use std::alloc::{AllocError, Global};
 use std::collections::HashSet;
@@ -136,14 +137,7 @@ fn path_text(alloc: Global, path: &Path) -> Result<Text, NoMemory>
     ensures { IfOk result (λ text. text ≡ joined (codes ".") path.now.names) }
 {
     let mut out = String::new(alloc);
-    let [first, rest @ ..] = path.names.as_slice() else {
-        return Ok(Text::from_str(alloc, "")?);
-    };
-    out.push_str(first.as_str())?;
-    for name in rest {
-        out.push_str(".")?;
-        out.push_str(name.as_str())?;
-    }
+    print_joined(&mut out, ".", path.names.as_slice())?;
     Text::from_str(alloc, out.as_str())
 }
 

@@ -39,7 +39,8 @@ pub fn print_range(out: &mut String, low: i64, high: i64) -> Result<(), AllocErr
     print_signed(out, high)
 }
 
-/// The texts with a separator between them.
+/// Writes the texts at the end of `out`, with the separator between them. The only error is want of
+/// memory.
 pub fn print_joined(out: &mut String, separator: &str, texts: &[Text]) -> Result<(), AllocError>
     ensures { OnOk result (string_bytes out.new ≡ string_bytes out.old ++ spec.joined separator.now texts.now) }
 {

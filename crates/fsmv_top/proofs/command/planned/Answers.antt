@@ -1,4 +1,4 @@
-use Rattle.std.proofs.Common.{◌≡◌, inl, inr, map, string_bytes}
+use Rattle.std.proofs.Common.{inl, inr, map, string_bytes}
 use Rattle.std.proofs.lemmas.Result.{IfOk-weaker}
 use Rattle.fsmv_top.specs.Plan.{Weaves}
 use Rattle.fsmv_top.proofs.command.planned.Goals as goal

@@ -1,4 +1,4 @@
-use Rattle.std.proofs.Common.{◌≡◌, ◌∷◌, [], List, map, codes, string_bytes, String, Global, ap, ◌∙◌, arith, rules, tests}
+use Rattle.std.proofs.Common.{◌≡◌, ◌∷◌, [], map, codes, string_bytes, ap, ◌∙◌, arith, rules, tests}
 use Rattle.fsmv_top.proofs.WordLemmas.{read, read_all}
 use Rattle.fsmv_top.proofs.words.weave_words.Goals as goal
 

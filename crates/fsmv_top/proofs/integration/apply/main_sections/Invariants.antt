@@ -1,7 +1,5 @@
-use Rattle.std.proofs.Common.{◌≡◌, [], drop, find, codes}
-use Rattle.std.specs.Option.{option_map_or}
+use Rattle.std.proofs.Common.{◌≡◌, drop, find, codes}
 use Rattle.fsmv_top.specs.Impose.{is_named}
-use Rattle.fsmv_top.specs.Weaving as spec
 use Rattle.fsmv_top.proofs.integration.apply.main_sections.Given as goal
 
 abbrev pub invariant-loop-module : goal.invariant-loop-module

@@ -1,4 +1,4 @@
-use Rattle.std.proofs.Common.{◌≡◌, ◌+◌, ◌∷◌, Some, None, drop, sym, ◌∙◌, ap, find}
+use Rattle.std.proofs.Common.{◌+◌, ◌∷◌, Some, None, drop, sym, ◌∙◌, ap, find}
 use Rattle.std.specs.Str.{bytes_eq}
 use Rattle.std.proofs.lemmas.List.{drop_more}
 use Rattle.fsmv_top.proofs.DeclaredLemmas.{found_step}

@@ -1,7 +1,5 @@
-use Rattle.std.proofs.Common.{◌≡◌, List, Some, ap, ◌∙◌, arith, rules}
-use Rattle.std.proofs.lemmas.Grind.{common_steps}
+use Rattle.std.proofs.Common.{◌≡◌, List, Some, ap, arith, rules}
 use Rattle.smv_ast.specs.declared.program.Module.{Module}
-use Rattle.smv_ast.specs.declared.program.Program.{Program}
 use Rattle.fsmv_top.specs.Lists.{first_place, change_first}
 use Rattle.fsmv_top.specs.Impose.{is_named, imposed_in}
 use Rattle.fsmv_top.proofs.ListLemmas.{change_first_taken}

@@ -1,4 +1,4 @@
-use Rattle.std.proofs.Common.{◌≡◌, ◌+◌, ◌++◌, ◌≤◌, length, reverse}
+use Rattle.std.proofs.Common.{◌≡◌, ◌+◌, ◌++◌, length, reverse}
 use Rattle.fsmv_top.proofs.integration.lists.take_last.Given as goal
 
 abbrev pub invariant-taking : goal.invariant-taking
