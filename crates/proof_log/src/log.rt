@@ -20,9 +20,9 @@ pub struct Line {
 
 /// Clauses that follow from axioms. The axioms have numbers from 1, and so have the derived lines.
 ///
-/// A clause that stands is kept twice, in its line and as the key by which it is found; its line is
-/// found by hashing the clause. A line, and more axioms than a `u32` can number, count as memory that
-/// is not there.
+/// A clause that stands is kept twice, in its line and as the key by which it is found, so a look-up
+/// costs the length of the clause. A line or an axiom past the last number of a `u32` counts as memory
+/// that is not there.
 ///
 /// Contracts see the axioms and the derived lines.
 #[derive(Drop)]
