@@ -9,6 +9,9 @@ pub mod Turns
 pub mod Words
 pub mod ExpressionRules
 pub mod SectionRules
+pub mod Inside
+pub mod Nesting
+pub mod Rows
 pub mod Endings
 pub mod Places
 pub mod Answering
