@@ -12,6 +12,8 @@ pub mod SectionRules
 pub mod Inside
 pub mod Nesting
 pub mod Rows
+pub mod ExprDepth
+pub mod ExprRules
 pub mod Endings
 pub mod Places
 pub mod Answering
