@@ -1,10 +1,10 @@
 -- Expressions nested deeper: what is read within a number is read within each greater one, for the same tree.
-use Rattle.std.proofs.Common.{◌≡◌, ℕ, zero, suc, ◌+◌, Bool, true, false, List, [], ◌∷◌, ◌++◌, None, fold, refl, sym, inl, inr, append-nil}
+use Rattle.std.proofs.Common.{ℕ, zero, suc, Bool, true, false, [], ◌∷◌, None, fold, refl, sym, inl, inr, append-nil}
 use Rattle.smv_ast.specs.declared.syntax.Expr.{Expr}
 use Rattle.smv_ast.specs.declared.syntax.Expr.TheVariants as e
 use Rattle.smv_parse.specs.declared.kind.Kind.TheVariants as k
-use Rattle.smv_parse.specs.Lexicon.{Token, same_kind}
-use Rattle.smv_parse.specs.Language.{Tokens, both, many, dep, by_test, until, row, made, nothing}
+use Rattle.smv_parse.specs.Lexicon.{same_kind}
+use Rattle.smv_parse.specs.Language.{Tokens, both, many, by_test, until, row, made, nothing}
 use Rattle.smv_parse.specs.Grammar.{branch_of, cases_of}
 use Rattle.smv_parse.specs.ExprGrammar as g
 use Rattle.smv_parse.specs.ExprGrammar.{expr, not_expr, signed_expr, is_closed, ends_closed, joined_operand, never_ends, within_operand, closed, still, joined, Operand}

@@ -1,5 +1,5 @@
 -- The rules of expressions, level by level, and at every limit of nesting.
-use Rattle.std.proofs.Common.{◌≡◌, ℕ, zero, suc, Bool, true, false, ◌||◌, List, [], ◌∷◌, ◌++◌, Some, refl}
+use Rattle.std.proofs.Common.{◌≡◌, ℕ, zero, suc, true, false, List, [], ◌∷◌, Some, refl}
 use Rattle.smv_ast.specs.declared.syntax.Op.{Op}
 use Rattle.smv_ast.specs.declared.syntax.Op.TheVariants as op
 use Rattle.smv_ast.specs.declared.syntax.Expr.{Expr}
@@ -7,15 +7,13 @@ use Rattle.smv_ast.specs.declared.syntax.Expr.TheVariants as e
 use Rattle.smv_parse.specs.declared.kind.Kind.{Kind}
 use Rattle.smv_parse.specs.declared.kind.Kind.TheVariants as k
 use Rattle.smv_parse.specs.Lexicon.{same_kind}
-use Rattle.smv_parse.specs.Language.{Tokens, word, name, numeral, one_of, kinds_of, find_kind, both, many, opt, either, made, begins}
+use Rattle.smv_parse.specs.Language.{Tokens, word, one_of, kinds_of, find_kind, both, either, made, begins}
 use Rattle.smv_parse.specs.Reading.{Reader, read_one_of, read_both, read_made}
 use Rattle.smv_parse.specs.Grammar.{branch_of, cases_of}
 use Rattle.smv_parse.specs.ExprGrammar as g
 use Rattle.smv_parse.specs.ExprGrammar.{expr, not_expr, signed_expr, is_closed, ends_closed, joined_operand, never_ends, within_operand, closed, still, joined, Operand, path_of, term_operators, sum_operators, comparisons, and_operators, or_operators, iff_operators}
-use Rattle.smv_parse.specs.ExprReaders as r
 use Rattle.smv_parse.specs.ExprReaders.{first_bare, first_signed, first_unary, first_expr, read_sign, read_up_to, read_number, read_negated_number, read_dotted, read_path, read_parens, read_next_value, read_listed, read_braces, read_interval, read_choice, read_branch, read_cases, read_bare, read_minus, read_signed, read_unary, read_negation, read_right_of, read_term, read_sum, read_in_choice, read_within, read_comparison, read_not_level, read_and_level, read_or_level, read_iff_level, read_whole, read_expr, read_not, read_signed_expr}
-use Rattle.smv_parse.proofs.Rules.{Rule, Starts, Leaves, GoesWithin}
-use Rattle.smv_parse.proofs.Sets.{within}
+use Rattle.smv_parse.proofs.Rules.{Rule, Starts, GoesWithin}
 use Rattle.smv_parse.proofs.Rows.{goes_by, row_rule}
 use Rattle.smv_parse.proofs.Nesting.{deeper, at_limit}
 use Rattle.smv_parse.proofs.ExprDepth.{expr_lang, not_lang, signed_lang, expr_under, not_under, signed_under}

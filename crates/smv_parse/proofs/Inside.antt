@@ -1,5 +1,5 @@
 -- A language inside another, part by part.
-use Rattle.std.proofs.Common.{◌≡◌, ℕ, Bool, true, false, List, [], ◌∷◌, ◌++◌, inl, inr}
+use Rattle.std.proofs.Common.{Bool, true, false, List, [], ◌∷◌, inl, inr}
 use Rattle.smv_parse.specs.declared.kind.Kind.{Kind}
 use Rattle.smv_parse.specs.Language.{Tokens, word, dep, both, many, by_test, until, row, either, made, opt, nothing}
 

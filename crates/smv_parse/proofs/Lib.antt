@@ -16,4 +16,6 @@ pub mod ExprDepth
 pub mod ExprRules
 pub mod Endings
 pub mod Places
+pub mod ExprAnswering
+pub mod RowTurns
 pub mod Answering

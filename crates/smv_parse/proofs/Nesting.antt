@@ -1,5 +1,5 @@
 -- Recursion by the number of constructs that may still be opened.
-use Rattle.std.proofs.Common.{◌≡◌, ℕ, zero, suc, ◌+◌, ◌≤◌, Bool, true, false, List, [], ◌∷◌, ◌++◌, refl, sym, ◌∙◌, ap, subst, arith, cond}
+use Rattle.std.proofs.Common.{◌≡◌, ℕ, zero, suc, ◌+◌, ◌≤◌, Bool, true, false, List, [], ◌++◌, refl, ◌∙◌, ap, subst, arith, cond}
 use Rattle.smv_parse.specs.declared.kind.Kind.{Kind}
 use Rattle.smv_parse.specs.Language.{Tokens, begins, next_of}
 use Rattle.smv_parse.specs.Reading.{Cause, Outcome, Reader, read_deep}

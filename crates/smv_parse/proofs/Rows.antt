@@ -2,9 +2,9 @@
 -- that ends the row.
 use Rattle.std.proofs.Common.{◌≡◌, ℕ, zero, suc, ◌+◌, ◌≤◌, Bool, true, false, ◌||◌, List, [], ◌∷◌, ◌++◌, length, fold, refl, sym, ◌∙◌, ap, subst, arith, length-append, inl, inr, cond}
 use Rattle.smv_parse.specs.declared.kind.Kind.{Kind}
-use Rattle.smv_parse.specs.Language.{Tokens, dep, by_test, until, row, either, made, nothing, begins, next_of}
-use Rattle.smv_parse.specs.Reading.{Outcome, Reader, read_dep, read_made, read_unless, read_until_to, read_until, read_row}
-use Rattle.smv_parse.specs.Reading.Outcome.{Read, Stop}
+use Rattle.smv_parse.specs.Language.{Tokens, dep, by_test, until, row, either, made, nothing, begins}
+use Rattle.smv_parse.specs.Reading.{Outcome, Reader, read_unless, read_until_to, read_until, read_row}
+use Rattle.smv_parse.specs.Reading.Outcome.{Read}
 use Rattle.smv_parse.proofs.Rules as rules
 use Rattle.smv_parse.proofs.Rules.{Good, IsLang, Rule, Starts, Leaves, GoesWithin, begins-append}
 use Rattle.smv_parse.proofs.Sets.{within, disjoint, begins_apart, begins_not_within}

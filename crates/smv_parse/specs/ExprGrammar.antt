@@ -1,6 +1,6 @@
 -- The grammar of expressions. Each value is the tree that a list of tokens stands for; a path has the place of its
 -- first name.
-use Rattle.std.specs.Prelude.{◌≡◌, ℕ, zero, suc, Bool, true, false, ◌||◌, ℤ, pos, neg_ℤ, List, [], ◌∷◌, Option, Some, None, fold}
+use Rattle.std.specs.Prelude.{ℕ, zero, suc, Bool, true, false, ◌||◌, ℤ, pos, neg_ℤ, List, [], ◌∷◌, Option, Some, None, fold}
 use Rattle.smv_ast.specs.declared.syntax.Span.{Span}
 use Rattle.smv_ast.specs.declared.syntax.Op.{Op}
 use Rattle.smv_ast.specs.declared.syntax.Op.TheVariants as op

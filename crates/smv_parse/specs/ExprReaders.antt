@@ -1,6 +1,5 @@
 -- The reader of each part of an expression.
-use Rattle.std.specs.Prelude.{ℕ, zero, suc, ℤ, pos, neg_ℤ, List, [], ◌∷◌, Option, Some, None}
-use Rattle.smv_ast.specs.declared.syntax.Op.{Op}
+use Rattle.std.specs.Prelude.{ℕ, zero, suc, ℤ, pos, neg_ℤ, List, [], ◌∷◌}
 use Rattle.smv_ast.specs.declared.syntax.Choice.{Choice}
 use Rattle.smv_ast.specs.declared.syntax.Choice.TheVariants as choice
 use Rattle.smv_ast.specs.declared.syntax.Expr.{Expr}

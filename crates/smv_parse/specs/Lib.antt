@@ -7,3 +7,4 @@ pub mod Readers
 pub mod ExprGrammar
 pub mod ExprReaders
 pub mod Answer
+pub mod ExprAnswer

@@ -101,6 +101,15 @@ read_until set ends p ts = read_until_to (length ts) set ends p ts
 abbrev pub read_row : {A B : Type 0} → List Kind → (B → Bool) → (A → Bool) → (B → A → B) → Reader B → Reader A → Reader B
 read_row set ended ends step p q = read_made (λ v. fold step v.0 v.1) (read_dep p (λ b. read_unless (ended b) (read_until set ends q)))
 
+-- Goes on while one of `set` comes and the value does not end its row, and adds what it reads by `step`. The number
+-- bounds the turns.
+abbrev pub read_more_to : {A B : Type 0} → ℕ → List Kind → (B → Bool) → Reader A → (B → A → B) → B → Reader B
+read_more_to zero set ended p step b ts = Read b ts
+read_more_to (suc n) set ended p step b ts = if ended b then Read b ts else (if begins set ts then and_then (p ts) (λ a rest. read_more_to n set ended p step (step b a) rest) else Read b ts)
+
+unfoldable pub read_more : {A B : Type 0} → List Kind → (B → Bool) → Reader A → (B → A → B) → B → Reader B
+read_more set ended p step b ts = read_more_to (length ts) set ended p step b ts
+
 -- what begins with one of `first`, at the limit of nesting: nothing is read
 abbrev pub read_deep : {A : Type 0} → List Kind → Reader A
 read_deep first ts = if begins first ts then Stop Deep ts else Stop Misfit ts
