@@ -7,17 +7,19 @@ use Rattle.smv_ast.specs.declared.syntax.Expr.TheVariants as e
 use Rattle.smv_parse.specs.declared.kind.Kind.{Kind}
 use Rattle.smv_parse.specs.declared.kind.Kind.TheVariants as k
 use Rattle.smv_parse.specs.Lexicon.{same_kind}
-use Rattle.smv_parse.specs.Language.{Tokens, word, one_of, kinds_of, find_kind, both, either, made, begins}
+use Rattle.smv_parse.specs.Language.{Tokens, word, one_of, kinds_of, find_kind, both, many, either, made, begins}
 use Rattle.smv_parse.specs.Reading.{Reader, read_one_of, read_both, read_made}
 use Rattle.smv_parse.specs.Grammar.{branch_of, cases_of}
 use Rattle.smv_parse.specs.ExprGrammar as g
 use Rattle.smv_parse.specs.ExprGrammar.{expr, not_expr, signed_expr, is_closed, ends_closed, joined_operand, never_ends, within_operand, closed, still, joined, Operand, path_of, term_operators, sum_operators, comparisons, and_operators, or_operators, iff_operators}
-use Rattle.smv_parse.specs.ExprReaders.{first_bare, first_signed, first_unary, first_expr, read_sign, read_up_to, read_number, read_negated_number, read_dotted, read_path, read_parens, read_next_value, read_listed, read_braces, read_interval, read_choice, read_branch, read_cases, read_bare, read_minus, read_signed, read_unary, read_negation, read_right_of, read_term, read_sum, read_in_choice, read_within, read_comparison, read_not_level, read_and_level, read_or_level, read_iff_level, read_whole, read_expr, read_not, read_signed_expr}
+use Rattle.smv_parse.specs.ExprReaders.{first_bare, first_signed, first_unary, first_expr, read_sign, read_up_to, read_number, read_negated_number, read_dotted, read_dotted_names, read_path, read_parens, read_next_value, read_listed, read_braces, read_interval, read_choice, read_branch, read_cases, read_bare, read_minus, read_signed, read_unary, read_negation, read_right_of, read_term, read_sum, read_in_choice, read_within, read_comparison, read_not_level, read_and_level, read_or_level, read_iff_level, read_whole, read_expr, read_not, read_signed_expr, read_more_listed, read_branches, read_term_item, read_more_term, read_sum_item, read_more_sum, read_comparison_item, read_more_comparison, read_more_within, read_and_item, read_more_and, read_or_item, read_more_or, read_iff_item, read_more_iff}
 use Rattle.smv_parse.proofs.Rules.{Rule, Starts, GoesWithin}
 use Rattle.smv_parse.proofs.Rows.{goes_by, row_rule}
+use Rattle.smv_parse.proofs.RowTurns.{row_turns}
 use Rattle.smv_parse.proofs.Nesting.{deeper, at_limit}
+use Rattle.smv_parse.proofs.Turns.{Consumes, consumes}
 use Rattle.smv_parse.proofs.ExprDepth.{expr_lang, not_lang, signed_lang, expr_under, not_under, signed_under}
-use Rattle.smv_parse.proofs.Words.{always, tok, tok_name, tok_numeral, tok_one_of, dep_seq, seq, after, before, map, map_to, alt, alt_to, maybe, collect, chain, starts_word, starts_name, starts_numeral, starts_table, starts_dep, starts_made, starts_either, starts_more, leaves_start, leaves_all, leaves_opt, leaves_many}
+use Rattle.smv_parse.proofs.Words.{always, tok, tok_name, tok_numeral, tok_one_of, dep_seq, seq, after, before, map, map_to, alt, alt_to, maybe, same, collect, chain, starts_word, starts_name, starts_numeral, starts_table, starts_dep, starts_made, starts_either, starts_more, leaves_start, leaves_all, leaves_opt, leaves_many}
 
 -- ---- with what each level goes on
 
@@ -249,9 +251,16 @@ module _ {limit : ℕ} where
   unfolding read_dotted
   dotted_rule = map _ (after k.Dot tok_name)
 
+  dotted_names_rule : Rule limit (λ m. many g.dotted) (always goes_path) read_dotted_names
+  unfolding read_dotted_names same_kind
+  dotted_names_rule = collect (k.Dot ∷ []) goes_path dotted_rule starts_dotted refl refl refl
+
   path_rule : Rule limit (λ m. g.path) (always goes_path) read_path
   unfolding read_path same_kind
-  path_rule = map path_of (seq tok_name (collect (k.Dot ∷ []) goes_path dotted_rule starts_dotted refl refl refl) (leaves_all _ (always goes_path)))
+  path_rule = map path_of (seq tok_name dotted_names_rule (leaves_all _ (always goes_path)))
+
+pub dotted_consumes : Consumes read_dotted
+dotted_consumes = consumes (dotted_rule {limit = 0}) starts_dotted
 
 -- ---- expressions, from readers of those one level deeper
 
@@ -264,12 +273,12 @@ module _ (limit : ℕ) (w n u : Reader Expr) (iw : Rule limit expr (always goes_
   unfolding read_next_value
   next_rule = map _ (after k.Next parens_rule)
 
-  listed_rule : Rule limit (At g.listed) (always goes_expr) (read_listed w n u)
+  pub listed_rule : Rule limit (At g.listed) (always goes_expr) (read_listed w n u)
   unfolding read_listed
   listed_rule = map _ (after k.Comma iw)
 
   braces_rule : Rule limit (At g.braces) (always []) (read_braces w n u)
-  unfolding read_braces same_kind
+  unfolding read_braces read_more_listed same_kind
   braces_rule = map _ (after k.OpenBrace (before k.CloseBrace refl
       (seq iw (collect (k.Comma ∷ []) goes_listed listed_rule starts_listed refl refl refl) (leaves_many goes_expr goes_listed refl refl starts_listed))))
 
@@ -281,12 +290,12 @@ module _ (limit : ℕ) (w n u : Reader Expr) (iw : Rule limit expr (always goes_
   unfolding read_choice same_kind
   choice_rule = alt (k.OpenBrace ∷ []) [] braces_rule interval_rule refl refl starts_braces (leaves_start (k.OpenBrace ∷ []) (always []) refl starts_interval)
 
-  branch_rule : Rule limit (At g.branch) (always []) (read_branch w n u)
+  pub branch_rule : Rule limit (At g.branch) (always []) (read_branch w n u)
   unfolding read_branch same_kind
   branch_rule = map branch_of (seq iw (after k.Colon (before k.Semicolon refl iw)) (leaves_start goes_expr (always []) refl (starts_dep _ (starts_word k.Colon (k.Colon ∷ []) refl))))
 
   cases_rule : Rule limit (At g.cases) (always []) (read_cases w n u)
-  unfolding read_cases same_kind
+  unfolding read_cases read_branches same_kind
   cases_rule = map cases_of (after k.Case (seq branch_rule (before k.Esac refl (collect first_expr first_expr branch_rule starts_branch refl refl refl)) (leaves_all _ (always []))))
 
   bare_rule : Rule limit (At g.bare) (always goes_path) (read_bare w n u)
@@ -337,28 +346,41 @@ module _ (limit : ℕ) (w n u : Reader Expr) (iw : Rule limit expr (always goes_
   item_rule {L = L} {p = p} going table entry e starts a = dep_seq {M = λ o m. g.right_of (expr m) (not_expr m) (signed_expr m) (L m)} {h = λ o. operand_goes going} {q = λ o. read_right_of w n u p}
       (tok_one_of table entry e) (λ o. right_rule going starts a) (λ o. leaves_all _ (operand_goes going))
 
+  pub term_item_rule : Rule limit (λ m. both (one_of term_operators) (g.right_of (expr m) (not_expr m) (signed_expr m) (made still (At g.unary m)))) (λ b. goes_by (ends_closed b) goes_not goes_unary) (read_term_item w n u)
+  unfolding read_term_item same_kind
+  term_item_rule = item_rule goes_unary term_operators (k.Star, op.Mul) refl starts_operand operand_rule
+
   term_rule : Rule limit (At g.term) (operand_goes goes_term) (read_term w n u)
-  unfolding read_term same_kind
-  term_rule = row_rule is_closed ends_closed joined_operand (λ b a. refl) (kinds_of term_operators) goes_not goes_unary goes_unary goes_term operand_rule
-      (item_rule goes_unary term_operators (k.Star, op.Mul) refl starts_operand operand_rule) (starts_dep _ (starts_table term_operators _ refl)) refl refl refl refl refl
+  unfolding read_term read_more_term same_kind
+  term_rule = same (read_term w n u) (row_turns (kinds_of term_operators) is_closed ends_closed joined_operand (read_term_item w n u) (λ b a. refl) (read_made still (read_unary w n u)))
+      (row_rule is_closed ends_closed joined_operand (λ b a. refl) (kinds_of term_operators) goes_not goes_unary goes_unary goes_term operand_rule term_item_rule (starts_dep _ (starts_table term_operators _ refl)) refl refl refl refl refl)
+
+  pub sum_item_rule : Rule limit (λ m. both (one_of sum_operators) (g.right_of (expr m) (not_expr m) (signed_expr m) ((At g.term) m))) (λ b. goes_by (ends_closed b) goes_not goes_term) (read_sum_item w n u)
+  unfolding read_sum_item same_kind
+  sum_item_rule = item_rule goes_term sum_operators (k.Plus, op.Add) refl starts_term term_rule
 
   sum_rule : Rule limit (At g.sum) (operand_goes goes_sum) (read_sum w n u)
-  unfolding read_sum same_kind
-  sum_rule = row_rule is_closed ends_closed joined_operand (λ b a. refl) (kinds_of sum_operators) goes_not goes_term goes_term goes_sum term_rule
-      (item_rule goes_term sum_operators (k.Plus, op.Add) refl starts_term term_rule) (starts_dep _ (starts_table sum_operators _ refl)) refl refl refl refl refl
+  unfolding read_sum read_more_sum same_kind
+  sum_rule = same (read_sum w n u) (row_turns (kinds_of sum_operators) is_closed ends_closed joined_operand (read_sum_item w n u) (λ b a. refl) (read_term w n u))
+      (row_rule is_closed ends_closed joined_operand (λ b a. refl) (kinds_of sum_operators) goes_not goes_term goes_term goes_sum term_rule sum_item_rule (starts_dep _ (starts_table sum_operators _ refl)) refl refl refl refl refl)
 
-  in_rule : Rule limit (At g.in_choice) (λ c. goes_by (never_ends c) goes_not []) (read_in_choice w n u)
+  pub in_rule : Rule limit (At g.in_choice) (λ c. goes_by (never_ends c) goes_not []) (read_in_choice w n u)
   unfolding read_in_choice
   in_rule = map _ (after k.In choice_rule)
 
   within_rule : Rule limit (At g.within) (operand_goes goes_within) (read_within w n u)
-  unfolding read_within same_kind
-  within_rule = row_rule is_closed never_ends within_operand (λ b a. refl) (k.In ∷ []) goes_not goes_sum [] goes_within sum_rule in_rule starts_in_choice refl refl refl refl refl
+  unfolding read_within read_more_within same_kind
+  within_rule = same (read_within w n u) (row_turns (k.In ∷ []) is_closed never_ends within_operand (read_in_choice w n u) (λ b a. refl) (read_sum w n u))
+      (row_rule is_closed never_ends within_operand (λ b a. refl) (k.In ∷ []) goes_not goes_sum [] goes_within sum_rule in_rule starts_in_choice refl refl refl refl refl)
+
+  pub comparison_item_rule : Rule limit (λ m. both (one_of comparisons) (g.right_of (expr m) (not_expr m) (signed_expr m) ((At g.within) m))) (λ b. goes_by (ends_closed b) goes_not goes_within) (read_comparison_item w n u)
+  unfolding read_comparison_item same_kind
+  comparison_item_rule = item_rule goes_within comparisons (k.Equal, op.Eq) refl starts_within within_rule
 
   comparison_rule : Rule limit (At g.comparison) (operand_goes goes_not) (read_comparison w n u)
-  unfolding read_comparison same_kind
-  comparison_rule = row_rule is_closed ends_closed joined_operand (λ b a. refl) (kinds_of comparisons) goes_not goes_within goes_within goes_not within_rule
-      (item_rule goes_within comparisons (k.Equal, op.Eq) refl starts_within within_rule) (starts_dep _ (starts_table comparisons _ refl)) refl refl refl refl refl
+  unfolding read_comparison read_more_comparison same_kind
+  comparison_rule = same (read_comparison w n u) (row_turns (kinds_of comparisons) is_closed ends_closed joined_operand (read_comparison_item w n u) (λ b a. refl) (read_within w n u))
+      (row_rule is_closed ends_closed joined_operand (λ b a. refl) (kinds_of comparisons) goes_not goes_within goes_within goes_not within_rule comparison_item_rule (starts_dep _ (starts_table comparisons _ refl)) refl refl refl refl refl)
 
   open_or_closed : GoesWithin {A = Operand} {B = Expr} (λ p. p.0) (operand_goes goes_not) (always goes_not)
   open_or_closed = record { at = go } where
@@ -370,19 +392,31 @@ module _ (limit : ℕ) (w n u : Reader Expr) (iw : Rule limit expr (always goes_
   unfolding read_not_level same_kind
   not_rule = alt (k.Not ∷ []) goes_not negation_rule (map_to _ (always goes_not) open_or_closed comparison_rule) refl refl starts_negation (leaves_start (k.Not ∷ []) (always goes_not) refl starts_comparison)
 
+  pub and_item_rule : Rule limit (λ m. both (one_of and_operators) (At g.not_level m)) (always goes_not) (read_and_item w n u)
+  unfolding read_and_item same_kind
+  and_item_rule = seq (tok_one_of and_operators (k.And, op.And) refl) not_rule (leaves_all _ (always goes_not))
+
   and_rule : Rule limit (At g.and_level) (always goes_and) (read_and_level w n u)
-  unfolding read_and_level same_kind
-  and_rule = chain (kinds_of and_operators) goes_and joined not_rule (seq (tok_one_of and_operators (k.And, op.And) refl) not_rule (leaves_all _ (always goes_not)))
+  unfolding read_and_level read_more_and same_kind
+  and_rule = chain (kinds_of and_operators) goes_and joined not_rule and_item_rule
       (starts_dep _ (starts_table and_operators _ refl)) refl refl refl (leaves_many goes_not goes_and refl refl (starts_dep _ (starts_table and_operators (kinds_of and_operators) refl)))
 
+  pub or_item_rule : Rule limit (λ m. both (one_of or_operators) (At g.and_level m)) (always goes_and) (read_or_item w n u)
+  unfolding read_or_item same_kind
+  or_item_rule = seq (tok_one_of or_operators (k.Or, op.Or) refl) and_rule (leaves_all _ (always goes_and))
+
   or_rule : Rule limit (At g.or_level) (always goes_or) (read_or_level w n u)
-  unfolding read_or_level same_kind
-  or_rule = chain (kinds_of or_operators) goes_or joined and_rule (seq (tok_one_of or_operators (k.Or, op.Or) refl) and_rule (leaves_all _ (always goes_and)))
+  unfolding read_or_level read_more_or same_kind
+  or_rule = chain (kinds_of or_operators) goes_or joined and_rule or_item_rule
       (starts_dep _ (starts_table or_operators _ refl)) refl refl refl (leaves_many goes_and goes_or refl refl (starts_dep _ (starts_table or_operators (kinds_of or_operators) refl)))
 
+  pub iff_item_rule : Rule limit (λ m. both (one_of iff_operators) (At g.or_level m)) (always goes_or) (read_iff_item w n u)
+  unfolding read_iff_item same_kind
+  iff_item_rule = seq (tok_one_of iff_operators (k.Iff, op.Iff) refl) or_rule (leaves_all _ (always goes_or))
+
   iff_rule : Rule limit (At g.iff_level) (always goes_iff) (read_iff_level w n u)
-  unfolding read_iff_level same_kind
-  iff_rule = chain (kinds_of iff_operators) goes_iff joined or_rule (seq (tok_one_of iff_operators (k.Iff, op.Iff) refl) or_rule (leaves_all _ (always goes_or)))
+  unfolding read_iff_level read_more_iff same_kind
+  iff_rule = chain (kinds_of iff_operators) goes_iff joined or_rule iff_item_rule
       (starts_dep _ (starts_table iff_operators _ refl)) refl refl refl (leaves_many goes_or goes_iff refl refl (starts_dep _ (starts_table iff_operators (kinds_of iff_operators) refl)))
 
   whole_rule : Rule limit (At g.whole) (always goes_expr) (read_whole w n u)
