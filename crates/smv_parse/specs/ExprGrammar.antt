@@ -197,7 +197,8 @@ module _ (W N U : Expr → Tokens → Type 0) where
   abbrev pub whole : Lang Expr
   whole = made (λ p. implied p.0 p.1) (both iff_level (opt implied_expr))
 
--- with fewer constructs open at one place than the number
+-- With fewer constructs open at one place than the number: `(`, `{`, `case`, `!`, `->`, and a `-` before anything but
+-- a numeral. A `-` before a numeral is not counted, whether it negates the numeral or belongs to an interval.
 abbrev mutual
   pub expr : ℕ → Expr → Tokens → Type 0
   expr zero a ts = ⊥
