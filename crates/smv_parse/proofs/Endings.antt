@@ -12,7 +12,7 @@ use Rattle.smv_parse.specs.Answer.{IsOnly, StopsAt, Ends}
 use Rattle.smv_parse.proofs.Rules.{Good, Took, Halts, Rule}
 use Rattle.smv_parse.proofs.Words.{always}
 
-no_next : (y : Tokens) (t : Token) → y ≡ [] → next_of y ≡ Some t → ⊥
+pub no_next : (y : Tokens) (t : Token) → y ≡ [] → next_of y ≡ Some t → ⊥
 no_next [] t e n = cc
 no_next (x ∷ y) t e n = cc
 

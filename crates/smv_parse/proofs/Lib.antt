@@ -9,6 +9,13 @@ pub mod Turns
 pub mod Words
 pub mod ExpressionRules
 pub mod SectionRules
+pub mod Inside
+pub mod Nesting
+pub mod Rows
+pub mod ExprDepth
+pub mod ExprRules
 pub mod Endings
 pub mod Places
+pub mod ExprAnswering
+pub mod RowTurns
 pub mod Answering

@@ -6,7 +6,7 @@ use Rattle.smv_parse.specs.Lexicon.{Token}
 use Rattle.smv_parse.specs.Language.{Tokens, leaf, dep, both, many, either, made, nothing, begins, has, next_of}
 use Rattle.smv_parse.specs.Reading.{Cause, Outcome, Reader, and_then, read_if, read_leaf, read_dep, read_both, read_made, read_either, read_nothing}
 use Rattle.smv_parse.specs.Reading.Outcome.{Read, Stop}
-use Rattle.smv_parse.specs.Reading.Cause.{Misfit}
+use Rattle.smv_parse.specs.Reading.Cause.{Misfit, Deep}
 
 -- ---- what a reader owes
 
@@ -25,6 +25,7 @@ pub record Took {A : Type 0} (limit : ℕ) (L : ℕ → A → Tokens → Type 0)
 -- at which depths nothing can be read, for a cause
 abbrev pub Covers : ℕ → Cause → ℕ → Type 0
 Covers limit Misfit m = Unit {0}
+Covers limit Deep m = m ≤ limit
 
 -- The reader stops at the rest: what stands before it can be gone on with, and not with the next token.
 pub record Halts {A : Type 0} (limit : ℕ) (L : ℕ → A → Tokens → Type 0) (goes : A → List Kind) (cause : Cause) (ts rest : Tokens) : Type 0 where

@@ -25,11 +25,11 @@ consumes {A = A} {limit = limit} {L = L} {goes = goes} {p = p} {set = set} rule 
 
 -- ---- turns one by one
 
-then_same : {A B : Type 0} (o : Outcome A) (f f' : A → Tokens → Outcome B) → ((a : A) (rest : Tokens) → o ≡ Read a rest → f a rest ≡ f' a rest) → and_then o f ≡ and_then o f'
+pub then_same : {A B : Type 0} (o : Outcome A) (f f' : A → Tokens → Outcome B) → ((a : A) (rest : Tokens) → o ≡ Read a rest → f a rest ≡ f' a rest) → and_then o f ≡ and_then o f'
 then_same (Read a rest) f f' e = e a rest refl
 then_same (Stop cause rest) f f' e = refl
 
-cond_same : {A : Type 0} (v : Bool) (x x' y : A) → x ≡ x' → cond v x y ≡ cond v x' y
+pub cond_same : {A : Type 0} (v : Bool) (x x' y : A) → x ≡ x' → cond v x y ≡ cond v x' y
 cond_same v x x' y e = ap (λ z. cond v z y) e
 
 module _ {A B : Type 0} (set : List Kind) (p : Reader A) (step : B → A → B) (c : Consumes p) where
@@ -69,17 +69,17 @@ turns_end set p step b ts h = ends_at (length ts) set p step b ts h
 gathered : {A B : Type 0} (step : B → A → B) (b : B) → Outcome (List A) → Outcome B
 gathered step b o = and_then o (λ found rest. Read (fold step b found) rest)
 
-regathered : {A B : Type 0} (step : B → A → B) (b : B) (a : A) (o : Outcome (List A))
+pub regathered : {A B : Type 0} (step : B → A → B) (b : B) (a : A) (o : Outcome (List A))
     → and_then o (λ found rest. Read (fold step (step b a) found) rest)
     ≡ and_then {A = List A} (and_then {A = A × List A} (and_then {B = A × List A} o (λ found rest. Read (a, found) rest)) (λ v rest. Read (v.0 ∷ v.1) rest)) (λ found rest. Read (fold step b found) rest)
 regathered step b a (Read found rest) = refl
 regathered step b a (Stop cause rest) = refl
 
-then_then : {A B C : Type 0} (o : Outcome A) (f : A → Tokens → Outcome B) (f' : B → Tokens → Outcome C) → and_then (and_then o f) f' ≡ and_then o (λ a rest. and_then (f a rest) f')
+pub then_then : {A B C : Type 0} (o : Outcome A) (f : A → Tokens → Outcome B) (f' : B → Tokens → Outcome C) → and_then (and_then o f) f' ≡ and_then o (λ a rest. and_then (f a rest) f')
 then_then (Read a rest) f f' = refl
 then_then (Stop cause rest) f f' = refl
 
-cond_then : {A B : Type 0} (v : Bool) (x y : Outcome A) (f : A → Tokens → Outcome B) → and_then (cond v x y) f ≡ cond v (and_then x f) (and_then y f)
+pub cond_then : {A B : Type 0} (v : Bool) (x y : Outcome A) (f : A → Tokens → Outcome B) → and_then (cond v x y) f ≡ cond v (and_then x f) (and_then y f)
 cond_then true x y f = refl
 cond_then false x y f = refl
 

@@ -194,3 +194,21 @@ pub chain : {A B : Type 0} {limit : ℕ} {L : ℕ → B → Tokens → Type 0} {
     → Rule limit (λ m. made (λ v. fold step v.0 v.1) (both (L m) (many (M m)))) (always goes) (λ ts. and_then (p ts) (λ b rest. read_fold set q step b rest))
 chain {p = p} {q = q} set goes step a b s hw sw d f =
     same (λ ts. and_then (p ts) (λ b rest. read_fold set q step b rest)) (λ ts. chained (p ts) set q step) (map (λ v. fold step v.0 v.1) (seq a (loop set goes b s hw sw d) f))
+
+-- ---- values that say with what they go on
+
+-- with the value that `fun` makes, which goes on with no less
+pub map_to : {A B : Type 0} {limit : ℕ} {L : ℕ → A → Tokens → Type 0} {g : A → List Kind} {p : Reader A} (fun : A → B) (goes : B → List Kind) → GoesWithin fun g goes → Rule limit L g p
+    → Rule limit (λ m. made fun (L m)) goes (read_made fun p)
+map_to {limit = limit} {L = L} {g = g} {p = p} fun goes w a = record {
+  lang = rules.made_lang limit fun L a.lang;
+  good = λ ts. rules.made_good limit fun L g goes w ts (p ts) (a.good ts);
+}
+
+pub alt_to : {A : Type 0} {limit : ℕ} {L M : ℕ → A → Tokens → Type 0} {p q : Reader A} (set : List Kind) (goes : A → List Kind)
+    → Rule limit L goes p → Rule limit M goes q → Starts set L → Leaves set goes M → Rule limit (λ m. either (L m) (M m)) goes (read_either set p q)
+alt_to {A = A} {limit = limit} {L = L} {M = M} {p = p} {q = q} set goes a b s l =
+    let unchanged : GoesWithin {A = A} {B = A} (λ x. x) goes goes = record { at = λ x r z. z } in record {
+      lang = rules.either_lang limit L M a.lang b.lang;
+      good = rules.either_good limit L M set goes goes goes unchanged unchanged s l p q a.good b.good;
+    }

@@ -1,5 +1,5 @@
 -- Languages: which value a list of tokens stands for. A grammar is written with these words.
-use Rattle.std.specs.Prelude.{◌≡◌, ℕ, Bool, false, ◌||◌, if◌then◌else◌, List, [], ◌∷◌, ◌++◌, map, Option, Some, None, ◌⊎◌}
+use Rattle.std.specs.Prelude.{◌≡◌, ℕ, Bool, true, false, ◌||◌, if◌then◌else◌, List, [], ◌∷◌, ◌++◌, map, fold, Option, Some, None, ◌⊎◌}
 use Rattle.smv_ast.specs.declared.syntax.Span.{Span}
 use Rattle.smv_parse.specs.declared.kind.Kind.{Kind}
 use Rattle.smv_parse.specs.declared.kind.Kind.TheVariants as k
@@ -94,10 +94,6 @@ abbrev pub many : {A : Type 0} → (A → Tokens → Type 0) → List A → Toke
 many L [] ts = ts ≡ []
 many L (a ∷ more) ts = (front : Tokens) × (back : Tokens) × (ts ≡ front ++ back) × L a front × many L more back
 
--- the one or the other
-abbrev pub either : {A : Type 0} → (A → Tokens → Type 0) → (A → Tokens → Type 0) → A → Tokens → Type 0
-either L M a ts = L a ts ⊎ M a ts
-
 -- with the value that f makes
 abbrev pub made : {A B : Type 0} → (A → B) → (A → Tokens → Type 0) → B → Tokens → Type 0
 made {A} f L b ts = (a : A) × L a ts × (f a ≡ b)
@@ -105,6 +101,24 @@ made {A} f L b ts = (a : A) × L a ts × (f a ≡ b)
 -- no token, for the value v
 abbrev pub nothing : {A : Type 0} → A → A → Tokens → Type 0
 nothing v a ts = (a ≡ v) × (ts ≡ [])
+
+-- the first statement where the test holds, else the second
+abbrev pub by_test : Bool → Type 0 → Type 0 → Type 0
+by_test true X Y = X
+by_test false X Y = Y
+
+-- any number of them, of which only the last may be one that ends the row
+abbrev pub until : {A : Type 0} → (A → Bool) → (A → Tokens → Type 0) → List A → Tokens → Type 0
+until ends L [] ts = ts ≡ []
+until ends L (a ∷ more) ts = (front : Tokens) × (back : Tokens) × (ts ≡ front ++ back) × L a front × by_test (ends a) (nothing [] more back) (until ends L more back)
+
+-- a first value and what `step` adds to it, item by item, until a value or an item ends the row
+abbrev pub row : {A B : Type 0} → (B → Bool) → (A → Bool) → (B → A → B) → (B → Tokens → Type 0) → (A → Tokens → Type 0) → B → Tokens → Type 0
+row ended ends step L M = made (λ v. fold step v.0 v.1) (dep L (λ b more ts. by_test (ended b) (nothing [] more ts) (until ends M more ts)))
+
+-- the one or the other
+abbrev pub either : {A : Type 0} → (A → Tokens → Type 0) → (A → Tokens → Type 0) → A → Tokens → Type 0
+either L M a ts = L a ts ⊎ M a ts
 
 -- one, or none
 abbrev pub opt : {A : Type 0} → (A → Tokens → Type 0) → Option A → Tokens → Type 0

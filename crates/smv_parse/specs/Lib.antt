@@ -4,4 +4,7 @@ pub mod Language
 pub mod Reading
 pub mod Grammar
 pub mod Readers
+pub mod ExprGrammar
+pub mod ExprReaders
 pub mod Answer
+pub mod ExprAnswer

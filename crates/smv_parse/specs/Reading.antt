@@ -1,5 +1,5 @@
 -- Reading from the left, token by token, with one token of lookahead: the words of the grammar once more, as functions.
-use Rattle.std.specs.Prelude.{◌≡◌, ℕ, zero, suc, true, false, if◌then◌else◌, List, [], ◌∷◌, ◌++◌, Option, Some, None, length, Result, Ok, Err}
+use Rattle.std.specs.Prelude.{◌≡◌, ℕ, zero, suc, Bool, true, false, if◌then◌else◌, List, [], ◌∷◌, ◌++◌, Option, Some, None, length, fold, Result, Ok, Err}
 use Rattle.smv_ast.specs.declared.syntax.Span.{Span}
 use Rattle.smv_parse.specs.declared.kind.Kind.{Kind}
 use Rattle.smv_parse.specs.declared.kind.Kind.TheVariants as k
@@ -12,6 +12,8 @@ use Rattle.smv_parse.specs.Language.{Tokens, begins, of_kind, find_kind, place_o
 pub data Cause : Type 0 where
   -- no text of the language goes on with the next token
   Misfit : Cause
+  -- what begins here would nest too deep
+  Deep : Cause
 
 -- A value and the tokens after it; or a cause, and the tokens from the one at which it comes on.
 pub data Outcome (A : Type 0) : Type 0 where
@@ -97,6 +99,35 @@ pushed found a = found ++ a ∷ []
 -- any number of them, as long as one of these kinds comes
 abbrev pub read_many : {A : Type 0} → List Kind → Reader A → Reader (List A)
 read_many set p = read_fold set p pushed []
+
+-- nothing more, where the row is ended
+abbrev pub read_unless : {A : Type 0} → Bool → Reader (List A) → Reader (List A)
+read_unless ended p ts = if ended then Read [] ts else p ts
+
+-- Goes on while one of `set` comes and no item ends the row. The number bounds the turns.
+abbrev pub read_until_to : {A : Type 0} → ℕ → List Kind → (A → Bool) → Reader A → Reader (List A)
+read_until_to zero set ends p ts = Read [] ts
+read_until_to (suc n) set ends p ts = read_either set (read_made (λ v. v.0 ∷ v.1) (read_dep p (λ a. read_unless (ends a) (read_until_to n set ends p)))) (read_nothing []) ts
+
+abbrev pub read_until : {A : Type 0} → List Kind → (A → Bool) → Reader A → Reader (List A)
+read_until set ends p ts = read_until_to (length ts) set ends p ts
+
+-- a first value and what `step` adds to it, while one of `set` comes and nothing ends the row
+abbrev pub read_row : {A B : Type 0} → List Kind → (B → Bool) → (A → Bool) → (B → A → B) → Reader B → Reader A → Reader B
+read_row set ended ends step p q = read_made (λ v. fold step v.0 v.1) (read_dep p (λ b. read_unless (ended b) (read_until set ends q)))
+
+-- Goes on while one of `set` comes and the value does not end its row, and adds what it reads by `step`. The number
+-- bounds the turns.
+abbrev pub read_more_to : {A B : Type 0} → ℕ → List Kind → (B → Bool) → Reader A → (B → A → B) → B → Reader B
+read_more_to zero set ended p step b ts = Read b ts
+read_more_to (suc n) set ended p step b ts = if ended b then Read b ts else (if begins set ts then and_then (p ts) (λ a rest. read_more_to n set ended p step (step b a) rest) else Read b ts)
+
+unfoldable pub read_more : {A B : Type 0} → List Kind → (B → Bool) → Reader A → (B → A → B) → B → Reader B
+read_more set ended p step b ts = read_more_to (length ts) set ended p step b ts
+
+-- what begins with one of `first`, at the limit of nesting: nothing is read
+abbrev pub read_deep : {A : Type 0} → List Kind → Reader A
+read_deep first ts = if begins first ts then Stop Deep ts else Stop Misfit ts
 
 -- ---- what a function that reads ensures
 

@@ -6,6 +6,7 @@ pub mod error;
 pub mod expression;
 pub mod kind;
 mod lexeme;
+pub mod operand;
 pub mod program;
 pub mod sections;
 

@@ -1,10 +1,11 @@
 use crate::cursor::Cursor;
 use crate::expression::{atom, right, simple};
 use crate::kind::Kind;
+use crate::operand::{negated_number, number, path, sign, up_to};
 use crate::program::stand;
 use crate::sections::{left_side, module, smv_type};
 use crate::{Reading, read_program};
-use smv_ast::{Expr, Fault, Left, Op, Section, SmvType};
+use smv_ast::{Choice, Expr, Fault, Left, Op, Section, SmvType};
 use std::alloc::Global;
 use std::test::Fail;
 
@@ -152,6 +153,40 @@ fn parts(rt: HostRuntime) -> Result<(), Fail> {
         panic!(rt; "a module");
     };
     assert!(rt; empty.name.is("m"));
+    assert!(rt; tokens.is_at_end());
+    Ok(())
+}
+
+#[test]
+fn operands(rt: HostRuntime) -> Result<(), Fail> {
+    let alloc = rt.alloc();
+    let mut tokens = Cursor::new(2, b"- 12 .. -3 4 5..6 7 8..9 cabin . r1.at");
+    assert!(rt; matches!(sign(&mut tokens), Ok(-12)));
+    assert!(rt; matches!(up_to(&mut tokens), Ok(-3)));
+    assert!(rt; matches!(number(&mut tokens), Ok(Expr::Number(4))));
+    let five_to_six = number(&mut tokens);
+    assert!(rt;
+        matches!(
+            five_to_six,
+            Ok(Expr::Pick(Choice::Between { low: 5, high: 6 }))
+        )
+    );
+    assert!(rt; matches!(negated_number(alloc, &mut tokens), Ok(Expr::Neg(_))));
+    let to_nine = negated_number(alloc, &mut tokens);
+    assert!(rt;
+        matches!(
+            to_nine,
+            Ok(Expr::Pick(Choice::Between { low: -8, high: 9 }))
+        )
+    );
+    let Ok(Expr::Name(path)) = path(alloc, &mut tokens) else {
+        panic!(rt; "a path");
+    };
+    assert_eq!(rt; (path.at.file, path.at.at), (2, 25));
+    let [cabin, r1, at] = path.names.as_slice() else {
+        panic!(rt; "three names");
+    };
+    assert!(rt; cabin.is("cabin") && r1.is("r1") && at.is("at"));
     assert!(rt; tokens.is_at_end());
     Ok(())
 }
