@@ -1,13 +1,13 @@
 -- Going back to a level.
-use Rattle.std.proofs.Common.{◌≡◌, ◌≢◌, ℕ, ◌==◌, ◌||◌, ◌&&◌, ◌≤◌, ◌<◌, ◌+◌, ◌-◌, ◌*◌, Bool, true, false, not, cond, List, [], ◌∷◌, ◌++◌, length, get_or, take, drop, arith, inl, inr, sym, ◌∙◌, ap, subst, refl, zero, suc, append-nil, length-drop}
-use Rattle.std.specs.Prelude.{All, filter, nat_le}
-use Rattle.std.specs.List.{list_any, AllPairs, Any}
-use Rattle.std.proofs.lemmas.Bool.{cases_Bool, cases_lt, cases_eq, le-leb, lt-leb, eqb-true, both_ways, eq-eqb, ne_eqb}
+use Rattle.std.proofs.Common.{◌≡◌, ℕ, ◌==◌, ◌||◌, ◌&&◌, ◌≤◌, ◌<◌, ◌+◌, ◌-◌, ◌*◌, Bool, true, false, not, cond, List, [], ◌∷◌, ◌++◌, length, get_or, take, drop, arith, inl, inr, sym, ◌∙◌, ap, subst, refl, append-nil, length-drop}
+use Rattle.std.specs.Prelude.{All, nat_le}
+use Rattle.std.specs.List.{AllPairs, Any}
+use Rattle.std.proofs.lemmas.Bool.{cases_eq, le-leb, lt-leb, eqb-true}
 use Rattle.std.proofs.lemmas.List.{take-append-drop, get_or_default, get_or-take, get_or-drop, length-take-le}
 use Rattle.std.proofs.lemmas.List.Folds.{list_any-append, Any-from_list_any}
-use Rattle.std.proofs.lemmas.List.Elements.{All-head, All-tail, All-filter, All-from_get_or, filter_more, filter-append}
+use Rattle.std.proofs.lemmas.List.Elements.{All-head, All-tail, All-filter, All-from_get_or, filter_more}
 use Rattle.std.proofs.lemmas.List.Kept.{AllPairs-filter}
-use Rattle.sat_lits.specs.Literals.{negation, variable_of}
+use Rattle.sat_lits.specs.Literals.{variable_of}
 use Rattle.sat_arena.specs.declared.trail.Assigned.{Assigned}
 use Rattle.sat_arena.specs.Trails.{told, up_to, marked, IsGrown, IsOrderly, KeepsTogether}
 use Rattle.sat_arena.proofs.TrailLemmas.{HaveTwoVariables}
@@ -37,12 +37,12 @@ up_to-fewer level entries i d within above =
 pub up_to-front : (level : ℕ) (entries : List Assigned) (n : ℕ) (d : Assigned) → AllPairs (λ e f. e.level ≤ f.level) entries → 0 < n → n ≤ length entries → (get_or entries (n - 1) d).level ≤ level → up_to level (take n entries) ≡ take n entries
 up_to-front level entries n d rising some within last =
     up_to-all level (take n entries) (All-from_get_or (λ (e : Assigned). e.level ≤ level) (take n entries) d (λ i h.
-        let short : length (take n entries) ≡ n = length-take-le n entries within in
-        let at : get_or (take n entries) i d ≡ get_or entries i d = get_or-take n entries i d (omega arith) in
-        subst (λ (e : Assigned). e.level ≤ level) (sym at) (elim (cases_eq i (n - 1)) [
-          | inl e ↦ subst (λ (k : ℕ). (get_or entries k d).level ≤ level) (sym e) last
-          | inr ne ↦ (let order : (get_or entries i d).level ≤ (get_or entries (n - 1) d).level = rising i (n - 1) d (omega arith) (omega arith) in omega arith)
-        ])))
+    let short : length (take n entries) ≡ n = length-take-le n entries within in
+    let at : get_or (take n entries) i d ≡ get_or entries i d = get_or-take n entries i d (omega arith) in
+    subst (λ (e : Assigned). e.level ≤ level) (sym at) (elim (cases_eq i (n - 1)) [
+      | inl e ↦ subst (λ (k : ℕ). (get_or entries k d).level ≤ level) (sym e) last
+      | inr ne ↦ (let order : (get_or entries i d).level ≤ (get_or entries (n - 1) d).level = rising i (n - 1) d (omega arith) (omega arith) in omega arith)
+    ])))
 
 -- what was true before a place is not true from there on
 front_only : (entries : List Assigned) (n : ℕ) → n ≤ length entries → AllPairs HaveTwoVariables entries → (l : ℕ) → told (take n entries) l ≡ true → told (drop n entries) l ≡ true → ⊥
@@ -71,7 +71,7 @@ KeepsTogether-back entries truth truth' vars capacity capacity' level n kept wit
   flags = λ l.
       cleared l
       ∙ ap (λ b. b && not (told (drop n entries) l))
-          (kept.flags l ∙ ap (λ es. told es l) (sym (take-append-drop n entries)) ∙ list_any-append (λ e. e.lit == l) (take n entries) (drop n entries))
+      (kept.flags l ∙ ap (λ es. told es l) (sym (take-append-drop n entries)) ∙ list_any-append (λ e. e.lit == l) (take n entries) (drop n entries))
       ∙ front_alone (told (take n entries) l) (told (drop n entries) l) (front_only entries n within kept.orderly.apart l);
   flags_fit = omega (arith, kept.flags_fit);
   flags_room = λ some. (let room : 2 * vars + 2 ≤ length truth = kept.flags_room some in omega arith);

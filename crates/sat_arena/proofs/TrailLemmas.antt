@@ -1,17 +1,16 @@
 -- What is true as a trail grows and shrinks.
-use Rattle.std.proofs.Common.{◌≡◌, ◌≢◌, ℕ, ◌==◌, ◌||◌, ◌&&◌, ◌≤◌, ◌<◌, ◌+◌, ◌*◌, Bool, true, false, not, List, [], ◌∷◌, ◌++◌, length, map, set, get_or, take, drop, arith, inl, inr, sym, ◌∙◌, ap, subst, refl, get_or-set_same, get_or-set_other, length-set, length-append, zero, suc, replicate}
+use Rattle.std.proofs.Common.{◌≡◌, ◌≢◌, ℕ, ◌==◌, ◌||◌, ◌≤◌, ◌<◌, ◌+◌, ◌*◌, Bool, true, false, List, [], ◌∷◌, ◌++◌, length, map, set, get_or, take, arith, inl, inr, sym, ◌∙◌, ap, refl, get_or-set_same, get_or-set_other, length-set, zero, suc, replicate}
 use Rattle.std.specs.Prelude.{All}
 use Rattle.std.specs.List.{list_any, IsDistinct, AllPairs, Any}
-use Rattle.std.proofs.lemmas.Bool.{cases_eq, cases_order, cases_Bool, or_parts, or_cases, eq-eqb, ne_eqb, eqb-true, eqb-false, or_right, or_left, false≢true, both_ways}
+use Rattle.std.proofs.lemmas.Bool.{cases_eq, cases_order, or_parts, or_cases, eq-eqb, ne_eqb, eqb-true, eqb-false, or_right, false≢true}
 use Rattle.std.proofs.lemmas.List.{length-map, length_push, get_or_default, take_all}
 use Rattle.std.proofs.lemmas.Map.Steps.{length-le_from_distinct_below}
 use Rattle.std.proofs.lemmas.List.Folds.{list_any-append, Any-from_list_any}
-use Rattle.std.proofs.lemmas.List.Elements.{All-cons, All-nil, All-tail, All-push, All-map, All-filter, All-get_or, All-from_get_or, recursion_from_All}
-use Rattle.std.proofs.lemmas.List.Kept.{AllPairs-filter}
+use Rattle.std.proofs.lemmas.List.Elements.{All-cons, All-nil, All-tail, All-push, All-map, All-from_get_or, recursion_from_All}
 use Rattle.std.proofs.lemmas.List.Quantifiers.{all_pairs_push}
 use Rattle.sat_lits.specs.Literals.{negation, variable_of}
 use Rattle.sat_arena.specs.declared.trail.Assigned.{Assigned}
-use Rattle.sat_arena.specs.Trails.{told, up_to, marked, IsGrown, IsOrderly, KeepsTogether}
+use Rattle.sat_arena.specs.Trails.{told, marked, IsGrown, IsOrderly, KeepsTogether}
 
 abbrev pub HaveTwoVariables : Assigned → Assigned → Type 0
 HaveTwoVariables e f = variable_of e.lit ≢ variable_of f.lit

@@ -1,4 +1,4 @@
-use Rattle.std.specs.Prelude.{◌≡◌, ℕ, Bool, true, false, List, All, Contains, ◌⊎◌}
+use Rattle.std.specs.Prelude.{◌≡◌, ℕ, Bool, true, false, List, Contains, ◌⊎◌}
 use Rattle.sat_lits.specs.Literals.{negation}
 
 -- Which literals are true is told by a test. A literal is false where its negation is true.

@@ -2,6 +2,7 @@
 ghost use Rattle.std.specs.Prelude.{◌≡◌, ℕ, ◌+◌, ◌≤◌, ◌<◌, ◌^◌, ◌&&◌, true, false, not, [], ◌∷◌, ◌++◌, All, AllPairs, length, max, take, drop, OnOk, OnErr};
 ghost use Rattle.sat_lits.specs.Literals.{negation, variable_of};
 ghost use Rattle.sat_arena.specs.Trails.{told, up_to, marked, IsOrderly};
+ghost use Rattle.sat_arena.specs.Settled.{IsConsistent};
 
 use sat_lits::Lit;
 use smv_ast::NoMemory;
@@ -100,6 +101,7 @@ impl Trail {
     pub fn entries(&self) -> &[Assigned]
         ensures same { result.now ≡ self.now.entries }
         ensures orderly { IsOrderly self.now.entries self.now.vars }
+        ensures consistent { IsConsistent (told self.now.entries) }
         ensures few { length self.now.entries ≤ self.now.vars + 1 }
     {
         &self.entries

@@ -1,4 +1,4 @@
-use Rattle.std.proofs.Common.{◌≡◌, ◌&&◌, ℕ, length, take, drop, not}
+use Rattle.std.proofs.Common.{◌≡◌, ◌&&◌, ℕ, length, take, not}
 use Rattle.sat_arena.specs.Trails.{told, marked}
 use Rattle.sat_arena.proofs.trail.clear.Given as goal
 

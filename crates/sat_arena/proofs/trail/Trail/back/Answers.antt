@@ -24,8 +24,8 @@ invariant_of-self c =
     let long : length c.clear.new.truth ≡ length flags.items = c.clear.auto.truth ∙ ap length c.as_mut_slice.ensures.value in
     let cleared : (l : ℕ) → marked c.clear.new.truth l ≡ (marked flags.items l && not (told (drop kept c.self.inside.entries.items) l))
     = λ l. c.clear.ensures.cleared l
-        ∙ ap (λ ts. marked ts l && not (told (drop kept c.deref-2.result.now) l)) c.as_mut_slice.ensures.value
-        ∙ ap (λ es. marked flags.items l && not (told (drop kept es) l)) entries' in
+    ∙ ap (λ ts. marked ts l && not (told (drop kept c.deref-2.result.now) l)) c.as_mut_slice.ensures.value
+    ∙ ap (λ es. marked flags.items l && not (told (drop kept es) l)) entries' in
     subst (λ (ts : List Bool). KeepsTogether c.truncate.new.self.items ts c.self.inside.vars (vec_capacity c.truncate.new.self)) (sym (with_items_is flags c.clear.new.truth (long ∙ sym flags.ok.0)))
     (subst (λ (es : List Assigned). KeepsTogether es c.clear.new.truth c.self.inside.vars (vec_capacity c.truncate.new.self)) (sym c.truncate.ensures.items)
     (KeepsTogether-back c.self.inside.entries.items flags.items c.clear.new.truth c.self.inside.vars (vec_capacity c.self.inside.entries) (vec_capacity c.truncate.new.self) c.args.level kept

@@ -1,4 +1,4 @@
-use Rattle.std.proofs.Common.{◌≡◌, ◌<◌, ◌≤◌, ◌+◌, ◌*◌, ◌++◌, ◌∷◌, [], List, false, true, length, set, subst, sym, ap, arith, ℕ}
+use Rattle.std.proofs.Common.{◌≡◌, ◌<◌, ◌≤◌, ◌+◌, ◌++◌, ◌∷◌, [], List, false, true, length, set, subst, sym, ap, arith, ℕ}
 use Rattle.std.proofs.lemmas.Grind.{common_steps}
 use Rattle.std.specs.Prelude.{All, vec_capacity, vec_len}
 use Rattle.sat_lits.specs.Literals.{variable_of, negation}
@@ -16,9 +16,9 @@ unwrap-requires c =
     let grown : IsGrown c.self.inside.vars c.args.entry.lit = (numbered, low) in
     let room : length c.self.inside.entries.items < c.self.inside.vars + 1
     = room_to_push c.self.inside.entries.items c.args.entry c.self.inside.vars c.self.invariant.orderly grown
-        (subst (λ (es : List Assigned). told es c.args.entry.lit ≡ false) (sym inside) c.requires.not_true)
-        (subst (λ (es : List Assigned). told es (negation c.args.entry.lit) ≡ false) (sym inside) c.requires.not_false)
-        (subst (λ (es : List Assigned). All (λ e. e.level ≤ c.args.entry.level) es) (sym inside) c.requires.newest) in
+    (subst (λ (es : List Assigned). told es c.args.entry.lit ≡ false) (sym inside) c.requires.not_true)
+    (subst (λ (es : List Assigned). told es (negation c.args.entry.lit) ≡ false) (sym inside) c.requires.not_false)
+    (subst (λ (es : List Assigned). All (λ e. e.level ≤ c.args.entry.level) es) (sym inside) c.requires.newest) in
     let some : 0 < c.self.inside.vars = omega arith in
     let reserved : c.self.inside.vars + 1 ≤ vec_capacity c.self.inside.entries = c.self.invariant.reserved some in
     let len : vec_len c.self.inside.entries ≡ length c.self.inside.entries.items = c.self.inside.entries.ok.0 in
@@ -36,6 +36,6 @@ invariant_of-self c =
     (subst (λ (n : ℕ). KeepsTogether (c.self.inside.entries.items ++ c.args.entry ∷ []) (set c.self.inside.truth.items n true) c.self.inside.vars (vec_capacity c.push.new.self)) (sym code)
     (KeepsTogether-push c.self.inside.entries.items c.args.entry c.self.inside.truth.items c.self.inside.vars (vec_capacity c.self.inside.entries) (vec_capacity c.push.new.self)
     c.self.invariant c.push.ensures.capacity (numbered, low)
-        (subst (λ (es : List Assigned). told es c.args.entry.lit ≡ false) (sym inside) c.requires.not_true)
-        (subst (λ (es : List Assigned). told es (negation c.args.entry.lit) ≡ false) (sym inside) c.requires.not_false)
-        (subst (λ (es : List Assigned). All (λ e. e.level ≤ c.args.entry.level) es) (sym inside) c.requires.newest)))
+    (subst (λ (es : List Assigned). told es c.args.entry.lit ≡ false) (sym inside) c.requires.not_true)
+    (subst (λ (es : List Assigned). told es (negation c.args.entry.lit) ≡ false) (sym inside) c.requires.not_false)
+    (subst (λ (es : List Assigned). All (λ e. e.level ≤ c.args.entry.level) es) (sym inside) c.requires.newest)))
