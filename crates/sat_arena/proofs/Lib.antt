@@ -1,0 +1,6 @@
+pub mod TrailLemmas
+pub mod LevelLemmas
+pub mod SettledLemmas
+pub mod DeducedLemmas
+pub mod ReclaimLemmas
+pub mod NewnessLemmas

@@ -1,0 +1,9 @@
+pub mod Trailed
+pub mod Trails
+pub mod Settled
+pub mod Status
+pub mod Watches
+pub mod Stored
+pub mod Held
+pub mod Deduced
+pub mod Newness

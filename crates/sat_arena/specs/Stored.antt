@@ -1,0 +1,7 @@
+use Rattle.std.specs.Prelude.{ℕ, List}
+use Rattle.smv_ast.specs.declared.proof.Id.{Id}
+
+-- a clause, and the id under which proofs cite it
+pub record Stored : Type 0 where
+  pub clause : List ℕ
+  pub id : Id

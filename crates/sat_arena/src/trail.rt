@@ -1,0 +1,141 @@
+//! The literals that are true, in the order in which they became so.
+ghost use Rattle.std.specs.Prelude.{◌≡◌, ℕ, ◌+◌, ◌≤◌, ◌<◌, ◌^◌, ◌&&◌, true, false, not, [], ◌∷◌, ◌++◌, All, AllPairs, length, max, take, drop, OnOk, OnErr};
+ghost use Rattle.sat_lits.specs.Literals.{negation, variable_of};
+ghost use Rattle.sat_arena.specs.Trails.{told, up_to, marked, IsOrderly};
+ghost use Rattle.sat_arena.specs.Settled.{IsConsistent};
+
+use sat_lits::Lit;
+use smv_ast::NoMemory;
+use std::alloc::Global;
+use std::marker::Model;
+
+/// A literal that became true.
+#[derive(Clone, Copy, Debug)]
+pub struct Assigned {
+    pub lit: Lit,
+    /// How many decisions had been made by then.
+    pub level: u32,
+    /// The place of the clause that forced the literal; `None` where it was decided.
+    pub reason: Option<u32>,
+}
+
+/// The literals that are true, by rising levels, and a flag for each literal by its code. No variable
+/// stands there twice.
+///
+/// Contracts see the entries in their order, and the greatest variable that may be assigned.
+#[derive(Drop)]
+pub struct Trail {
+    entries: Vec<Assigned>,
+    truth: Vec<bool>,
+    vars: u32,
+}
+
+impl Model for Trail {
+    ghost use Rattle.sat_arena.specs.Trailed.{Trailed};
+
+    ghost Value = { Trailed };
+
+    ghost use Rattle.std.specs.Prelude.{vec_capacity};
+    ghost use Rattle.sat_arena.specs.Trails.{KeepsTogether};
+
+    ghost view = { λ t. record { entries = t.entries.items; vars = t.vars } };
+
+    ghost invariant = { λ t. KeepsTogether t.entries.items t.truth.items t.vars (vec_capacity t.entries) };
+}
+
+impl Trail {
+    /// The trail on which nothing is true, over no variables.
+    pub fn new(alloc: Global) -> Trail
+        ensures { result ≡ record { entries = []; vars = 0 } }
+    {
+        Trail {
+            entries: Vec::new(alloc),
+            truth: Vec::new(alloc),
+            vars: 0,
+        }
+    }
+
+    /// Lets the variables up to this one be assigned. Fewer than before change nothing. It reserves all
+    /// that `push` needs; a variable from 2^30 on counts as memory that is not there. After `NoMemory`
+    /// the trail is unchanged.
+    pub fn grow(&mut self, vars: u32) -> Result<(), NoMemory>
+        ensures ok { OnOk result (self.new ≡ record self.old { vars = max self.old.vars vars }) }
+        ensures small { OnOk result (vars < 2 ^ 30) }
+        ensures err { OnErr result (self.new ≡ self.old) }
+    {
+        if vars >= 1 << 30 {
+            return Err(NoMemory);
+        }
+        if vars <= self.vars {
+            return Ok(());
+        }
+        self.entries.reserve(vars as usize + 1)?;
+        self.truth.resize(2 * vars as usize + 2, false)?;
+        self.vars = vars;
+        Ok(())
+    }
+
+    /// Makes one more literal true. It takes no memory.
+    pub fn push(&mut self, entry: Assigned)
+        requires grown { variable_of entry.lit ≤ self.old.vars }
+        requires not_true { told self.old.entries entry.lit ≡ false }
+        requires not_false { told self.old.entries (negation entry.lit) ≡ false }
+        requires newest { All (λ e. e.level ≤ entry.level) self.old.entries }
+        ensures { self.new ≡ record self.old { entries = self.old.entries ++ entry ∷ [] } }
+    {
+        let code = entry.lit.code() as usize;
+        self.truth[code] = true;
+        self.entries.push(entry).unwrap();
+    }
+
+    /// Takes back the entries above the level. It takes no memory.
+    pub fn back(&mut self, level: u32)
+        ensures { self.new ≡ record self.old { entries = up_to level self.old.entries } }
+    {
+        let kept = count_up_to(&self.entries, level);
+        clear(self.truth.as_mut_slice(), &self.entries, kept);
+        self.entries.truncate(kept);
+    }
+
+    /// The literals that are true, in their order.
+    pub fn entries(&self) -> &[Assigned]
+        ensures same { result.now ≡ self.now.entries }
+        ensures orderly { IsOrderly self.now.entries self.now.vars }
+        ensures consistent { IsConsistent (told self.now.entries) }
+        ensures few { length self.now.entries ≤ self.now.vars + 1 }
+    {
+        &self.entries
+    }
+
+    /// Whether the literal is true, in constant time. It is false where its negation is true.
+    pub fn is_true(&self, lit: Lit) -> bool
+        requires grown { variable_of lit ≤ self.now.vars }
+        ensures { result ≡ told self.now.entries lit }
+    {
+        self.truth[lit.code() as usize]
+    }
+}
+
+/// How many entries stand up to the level.
+fn count_up_to(entries: &[Assigned], level: u32) -> usize
+    requires rising { AllPairs (λ e f. e.level ≤ f.level) entries.now }
+    ensures within { result ≤ length entries.now }
+    ensures kept { take result entries.now ≡ up_to level entries.now }
+{
+    let mut kept = entries.len();
+    while kept > 0 && entries[kept - 1].level > level {
+        kept -= 1;
+    }
+    kept
+}
+
+/// Takes the flags of the entries from a place on.
+fn clear(truth: &mut [bool], entries: &[Assigned], from: usize)
+    requires start { from ≤ length entries.now }
+    requires room { All (λ e. e.lit < length truth.old) entries.now }
+    ensures cleared { (l : ℕ) → marked truth.new l ≡ (marked truth.old l && not (told (drop from entries.now) l)) }
+{
+    for entry in &entries[from..] {
+        truth[entry.lit.code() as usize] = false;
+    }
+}
