@@ -1,5 +1,5 @@
 //! The clauses among which propagation goes on.
-ghost use Rattle.std.specs.Prelude.{◌≡◌, ℕ, ◌+◌, ◌<◌, ◌≤◌, ◌^◌, ◌++◌, ◌∷◌, [], not, All, filter, length, max, map, slice_index_or, take, IfOk, IfNone, IfSome, OnOk, OnErr};
+ghost use Rattle.std.specs.Prelude.{◌≡◌, ℕ, ◌+◌, ◌<◌, ◌≤◌, ◌^◌, ◌++◌, ◌∷◌, [], not, All, filter, length, max, map, slice_index_or, take, IfOk, IfNone, IfSome, IsOk, OnOk, OnErr};
 ghost use Rattle.sat_arena.specs.Trails.{told, IsGrown};
 ghost use Rattle.sat_arena.specs.Settled.{IsSettled};
 ghost use Rattle.sat_arena.specs.Held.{clauses_of, is_satisfied, AreGrown};
@@ -53,6 +53,7 @@ impl Arena {
         ensures ok { OnOk result (self.new ≡ record self.old { vars = max self.old.vars vars }) }
         ensures small { OnOk result (vars < 2 ^ 30) }
         ensures err { OnErr result (self.new ≡ self.old) }
+        ensures cause { OnErr result (2 ^ 30 ≤ vars) }
     {
         if vars >= 1 << 30 {
             return Err(NoMemory);
@@ -91,11 +92,11 @@ impl Arena {
     }
 
     /// Takes out the clauses of two or more literals of which one is among the root literals, and
-    /// answers how many. The others keep their order.
+    /// answers how many. The others keep their order. It takes no memory, and answers Ok.
     pub fn reclaim(&mut self, root: &[Lit]) -> Result<u32, NoMemory>
+        ensures never_refused { IsOk result }
         ensures ok { OnOk result (self.new ≡ record self.old { stored = filter (λ s. not (is_satisfied root.now s)) self.old.stored }) }
         ensures count { IfOk result (λ count. count + length self.new.stored ≡ length self.old.stored) }
-        ensures err { OnErr result (self.new ≡ self.old) }
     {
         let before = self.clauses.len();
         let kept = bring_forward(self.clauses.as_mut_slice(), root);
