@@ -2,6 +2,10 @@
 //! with the number of the status.
 #![tactic(auto)]
 
+ghost use Rattle.std.specs.Prelude.{◌≡◌};
+ghost use Rattle.std.specs.Process.{exit_status};
+ghost use Rattle.fsmv_cli.specs.Numbers.{number};
+
 use fsmv_outside::{DiskFiles, StandardOut};
 use fsmv_top::{Status, run};
 use std::alloc::AllocError;
@@ -20,9 +24,17 @@ fn words(rt: &HostRuntime) -> io::Result<Vec<String>> {
     Ok(words)
 }
 
+/// How the program ends by the status of the call.
+fn exit_code(status: Status) -> ExitCode
+    ensures { exit_status result ≡ number status }
+{
+    ExitCode::from(status as u8)
+}
+
+/// How the program ends where the machine does not give the words.
 fn without_words(error: &io::Error) -> ExitCode {
     match error.kind() {
-        io::ErrorKind::OutOfMemory => ExitCode::from(Status::NoMemory as u8),
+        io::ErrorKind::OutOfMemory => exit_code(Status::NoMemory),
         _ => ExitCode::from(NO_WORDS),
     }
 }
@@ -35,5 +47,5 @@ fn main(rt: HostRuntime) -> ExitCode {
     let mut files = DiskFiles::new(&rt);
     let mut out = StandardOut::new(&rt);
     let status = run(rt.alloc(), words.as_slice(), &mut files, &mut out);
-    ExitCode::from(status as u8)
+    exit_code(status)
 }
