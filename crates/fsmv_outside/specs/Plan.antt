@@ -2,6 +2,7 @@
 use Rattle.std.specs.Prelude.{ℕ, Bool, List, if◌then◌else◌, Contains}
 use Rattle.fsmv_outside.specs.Count.{counted}
 
+-- what is planned, and what has come of it
 pub record Plan : Type 0 where
   -- the numbers of the calls that are to fail, counted from 1
   pub failing : List ℕ

@@ -1,8 +1,9 @@
 //! The texts of features that are read now: one feature with one IMPOSE in `main`.
 
-ghost use Rattle.std.specs.Prelude.{◌≡◌, ◌∷◌, [], ◌<◌, ◌^◌, length, IfOk, IsTrue, ◌↔◌, map, codes};
+ghost use Rattle.std.specs.Prelude.{◌≡◌, ◌∷◌, [], ◌<◌, ◌^◌, length, IfOk, IsTrue, Some, ◌↔◌, map, codes};
 ghost use Rattle.smv_parse.specs.Reading.{Gives};
 ghost use Rattle.smv_parse.specs.Answer.{Ends};
+ghost use Rattle.smv_parse.specs.Answer as place;
 ghost use Rattle.fsmv_top.specs.FeatureText as spec;
 ghost use Rattle.smv_ast.specs.declared.feature.Change.{Change};
 
@@ -106,6 +107,15 @@ fn changes_main(feature: &Feature) -> bool
     }
 }
 
+fn misfit(tokens: &Cursor<'_>, file: u32, bytes: &[u8]) -> Fault
+    requires { length bytes.now < 2 ^ 32 }
+    ensures { result ≡ Fault.Syntax (Some (place.stand file bytes.now tokens.now)) }
+{
+    Fault::Syntax {
+        at: Some(stand(tokens, file, bytes)),
+    }
+}
+
 /// The feature that the bytes of a file are.
 ///
 /// A text that is no feature is refused as Syntax, with a place in the file.
@@ -117,9 +127,10 @@ pub fn read_feature(alloc: Global, file: u32, bytes: &[u8]) -> Result<Feature, F
     let first = stand(&tokens, file, bytes);
     match whole(alloc, &mut tokens) {
         Err(ReadError::NoMemory) => Err(Fault::NoMemory),
-        Err(ReadError::Unexpected) => Err(Fault::Syntax {
-            at: Some(stand(&tokens, file, bytes)),
-        }),
+        // Nothing that is read here nests.
+        Err(ReadError::TooNested) => Err(Fault::NoMemory),
+        Err(ReadError::Unexpected) => Err(misfit(&tokens, file, bytes)),
+        Err(ReadError::WideNumber) => Err(misfit(&tokens, file, bytes)),
         Ok(feature) => {
             if !changes_main(&feature) {
                 return Err(Fault::Syntax { at: Some(first) });

@@ -1,15 +1,15 @@
 -- From the rule of a reader to what a whole text is.
-use Rattle.std.proofs.Common.{◌≡◌, List, [], ◌∷◌, ◌++◌, Some, Err, refl, sym, ◌∙◌, ap, subst, append-nil}
+use Rattle.std.proofs.Common.{◌≡◌, ℕ, List, [], ◌∷◌, ◌++◌, Some, Err, refl, sym, ◌∙◌, ap, subst, append-nil}
 use Rattle.smv_parse.specs.declared.kind.Kind.{Kind}
 use Rattle.smv_parse.specs.declared.error.ReadError.{ReadError}
 use Rattle.smv_parse.specs.declared.error.ReadError.TheVariants as error
 use Rattle.smv_parse.specs.Lexicon.{Token}
 use Rattle.smv_parse.specs.Language.{Tokens, next_of}
-use Rattle.smv_parse.specs.Reading.{Outcome, Reader, Gives}
+use Rattle.smv_parse.specs.Reading.{Cause, Alike, Outcome, Reader, Gives}
 use Rattle.smv_parse.specs.Reading.Outcome.{Read, Stop}
-use Rattle.smv_parse.specs.Reading.Cause.{Misfit}
+use Rattle.smv_parse.specs.Reading.Cause.{Misfit, Wide}
 use Rattle.smv_parse.specs.Answer.{IsOnly, StopsAt, Ends}
-use Rattle.smv_parse.proofs.Rules.{Good, Took, Halts, Rule}
+use Rattle.smv_parse.proofs.Rules.{Good, Took, Halts, Covers, Rule}
 use Rattle.smv_parse.proofs.Words.{always}
 
 pub no_next : (y : Tokens) (t : Token) → y ≡ [] → next_of y ≡ Some t → ⊥
@@ -37,14 +37,14 @@ module _ {A : Type 0} {L : A → Tokens → Type 0} {goes : List Kind} {p : Read
     dead = λ y b n h. let o = w.only 0 y (w.front ++ y) [] b n (append-nil (w.front ++ y)) h refl in no_next y t (sym o.2) n;
   }
 
-  halted : (rest : Tokens) → Halts 0 (λ m. L) (always goes) Misfit ts rest → StopsAt L ts rest
-  halted rest w = record {
+  halted : (cause : Cause) → ((y z : Tokens) → next_of y ≡ next_of z → Alike cause y z) → ((limit m : ℕ) → Covers limit cause m) → (rest : Tokens) → Halts 0 (λ m. L) (always goes) cause ts rest → StopsAt L ts rest
+  halted cause alike covers rest w = record {
     front = w.front;
     split = w.split;
     more = w.more;
     value = w.value;
     viable = w.viable;
-    dead = λ y b n h. w.dead 0 y (w.front ++ y) [] b tt n (append-nil (w.front ++ y)) h refl;
+    dead = λ y b n h. w.dead 0 y (w.front ++ y) [] b (covers 0 0) (alike y rest n) (append-nil (w.front ++ y)) h refl;
   }
 
   -- the reader takes the whole text
@@ -58,4 +58,6 @@ module _ {A : Type 0} {L : A → Tokens → Type 0} {goes : List Kind} {p : Read
 
   pub stops : (failure : ReadError) (new : Tokens) → Gives (p ts) (Err failure) new → Ends L ts (Err failure) new
   stops error.NoMemory new h = tt
-  stops error.Unexpected new h = halted new (good_at (Stop Misfit new) h)
+  stops error.Unexpected new h = halted Misfit (λ y z n. n) (λ l m. tt) new (good_at (Stop Misfit new) h)
+  stops error.WideNumber new h = halted Wide (λ y z n. n) (λ l m. tt) new (good_at (Stop Wide new) h)
+  stops error.TooNested new h = tt

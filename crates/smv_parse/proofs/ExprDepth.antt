@@ -33,6 +33,9 @@ module _ {W W' N N' U U' : Expr → Tokens → Type 0} (w : Inside W W') (n : In
   signed_inside : Inside (g.minus_or_bare W N U) (g.minus_or_bare W' N' U')
   signed_inside = either_inside (made_inside _ (after_inside k.Minus (either_inside itself (made_inside _ u)))) bare_inside
 
+  negated_inside : Inside (g.negated W N U) (g.negated W' N' U')
+  negated_inside = either_inside itself signed_inside
+
   unary_inside : Inside (g.unary W N U) (g.unary W' N' U')
   unary_inside = either_inside itself signed_inside
 
@@ -79,7 +82,7 @@ steps zero = record { whole = record { at = λ a ts h. absurd h }; negated = rec
 steps (suc m) = let s = steps m in record {
   whole = record { at = (whole_inside s.whole s.negated s.signed).at };
   negated = record { at = (not_inside s.whole s.negated s.signed).at };
-  signed = record { at = (signed_inside s.whole s.negated s.signed).at };
+  signed = record { at = (negated_inside s.whole s.negated s.signed).at };
 }
 
 -- ---- a text of each: TRUE
@@ -135,7 +138,7 @@ pub not_lang : IsLang not_expr
 not_lang = record { up = λ m n a ts h. (deeper_inside not_expr (λ i. (steps i).negated) m n).at a ts h; depth = 1; value = e.True; text = a_true; reads = not_true (expr 0) (not_expr 0) (signed_expr 0) }
 
 pub signed_lang : IsLang signed_expr
-signed_lang = record { up = λ m n a ts h. (deeper_inside signed_expr (λ i. (steps i).signed) m n).at a ts h; depth = 1; value = e.True; text = a_true; reads = inr (bare_true (expr 0) (not_expr 0) (signed_expr 0)) }
+signed_lang = record { up = λ m n a ts h. (deeper_inside signed_expr (λ i. (steps i).signed) m n).at a ts h; depth = 1; value = e.True; text = a_true; reads = inr (inr (bare_true (expr 0) (not_expr 0) (signed_expr 0))) }
 
 -- ---- each is its level, with one construct more that may be open
 
@@ -145,5 +148,5 @@ expr_under = record { none = λ a ts h. h; inner = λ m a ts h. h; outer = λ m 
 pub not_under : IsUnder (λ m. g.not_level (expr m) (not_expr m) (signed_expr m)) not_expr
 not_under = record { none = λ a ts h. h; inner = λ m a ts h. h; outer = λ m a ts h. h }
 
-pub signed_under : IsUnder (λ m. g.minus_or_bare (expr m) (not_expr m) (signed_expr m)) signed_expr
+pub signed_under : IsUnder (λ m. g.negated (expr m) (not_expr m) (signed_expr m)) signed_expr
 signed_under = record { none = λ a ts h. h; inner = λ m a ts h. h; outer = λ m a ts h. h }

@@ -1,4 +1,6 @@
 pub mod Booleans
+pub mod Numerals
+pub mod HeightLemmas
 pub mod Lexemes
 pub mod Spellings
 pub mod Cutting
@@ -13,8 +15,12 @@ pub mod Inside
 pub mod Nesting
 pub mod Rows
 pub mod ExprDepth
+pub mod NumberRules
 pub mod ExprRules
 pub mod Endings
+pub mod Limited
+pub mod ExprLimited
+pub mod ExprTurns
 pub mod Places
 pub mod ExprAnswering
 pub mod RowTurns

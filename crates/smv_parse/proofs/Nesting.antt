@@ -2,9 +2,9 @@
 use Rattle.std.proofs.Common.{◌≡◌, ℕ, zero, suc, ◌+◌, ◌≤◌, Bool, true, false, List, [], ◌++◌, refl, ◌∙◌, ap, subst, arith, cond}
 use Rattle.smv_parse.specs.declared.kind.Kind.{Kind}
 use Rattle.smv_parse.specs.Language.{Tokens, begins, next_of}
-use Rattle.smv_parse.specs.Reading.{Cause, Outcome, Reader, read_deep}
+use Rattle.smv_parse.specs.Reading.{Cause, Alike, Outcome, Reader, read_deep}
 use Rattle.smv_parse.specs.Reading.Outcome.{Read, Stop}
-use Rattle.smv_parse.specs.Reading.Cause.{Misfit, Deep}
+use Rattle.smv_parse.specs.Reading.Cause.{Misfit, Wide, Deep}
 use Rattle.smv_parse.proofs.Rules.{Good, IsLang, Rule, Starts, Covers, begins-append, begins-next}
 use Rattle.smv_parse.proofs.Inside.{Inside, itself, through}
 
@@ -26,6 +26,7 @@ pub record IsUnder {A : Type 0} (F E : ℕ → A → Tokens → Type 0) : Type 0
 module _ {A : Type 0} {F E : ℕ → A → Tokens → Type 0} (under : IsUnder F E) where
   covers_less : (limit m : ℕ) (cause : Cause) → Covers (suc limit) cause (suc m) → Covers limit cause m
   covers_less limit m Misfit u = tt
+  covers_less limit m Wide u = tt
   covers_less limit m Deep u = omega (arith, u)
 
   pub raised : (limit : ℕ) (g : A → List Kind) (ts : Tokens) (o : Outcome A) → Good limit F g ts o → Good (suc limit) E g ts o
@@ -34,7 +35,7 @@ module _ {A : Type 0} {F E : ℕ → A → Tokens → Type 0} (under : IsUnder F
     only zero y f r b n e h z = absurd (under.none b f h)
     only (suc m) y f r b n e h z = w.only m y f r b n e (under.inner m b f h) z
   raised limit g ts (Stop cause rest) w = record { front = w.front; split = w.split; depth = suc w.depth; value = w.value; more = w.more; viable = under.outer _ _ _ w.viable; dead = dead } where
-    dead : (m : ℕ) (y f r : Tokens) (b : A) → Covers (suc limit) cause m → next_of y ≡ next_of rest → f ++ r ≡ w.front ++ y → E m b f → begins (g b) r ≡ false → ⊥
+    dead : (m : ℕ) (y f r : Tokens) (b : A) → Covers (suc limit) cause m → Alike cause y rest → f ++ r ≡ w.front ++ y → E m b f → begins (g b) r ≡ false → ⊥
     dead zero y f r b u n e h z = under.none b f h
     dead (suc m) y f r b u n e h z = w.dead m y f r b (covers_less limit m cause u) n e (under.inner m b f h) z
 

@@ -7,12 +7,13 @@ use Rattle.smv_parse.specs.declared.lexeme.Lexeme.{Lexeme}
 use Rattle.smv_parse.specs.declared.cursor.Cursor.TheInside.{Inside}
 use Rattle.smv_parse.specs.Ahead.{tokens_left, IsReady, IsNext}
 use Rattle.smv_parse.specs.Lexicon.{Bytes, Token, IsNumeral, same_kind, tokens_from}
-use Rattle.smv_parse.specs.Language.{Tokens, begins, has, kinds_of, find_kind, of_kind, next_of, kind_of}
-use Rattle.smv_parse.specs.Reading.{read_if, read_leaf, read_one_of}
+use Rattle.smv_parse.specs.Language.{Tokens, begins, has, kinds_of, find_kind, of_kind, next_of, kind_of, number_of}
+use Rattle.smv_parse.specs.Reading.{read_if, read_leaf, read_one_of, read_digits, read_numeral}
+use Rattle.smv_parse.specs.ExprReaders.{read_limited}
 use Rattle.smv_parse.specs.Reading.Outcome.{Read, Stop}
-use Rattle.smv_parse.specs.Reading.Cause.{Misfit}
+use Rattle.smv_parse.specs.Reading.Cause.{Misfit, Wide}
 use Rattle.smv_parse.proofs.Lexemes.{Fits}
-use Rattle.smv_parse.proofs.Spellings.{name_ascii, numeral_digits}
+use Rattle.smv_parse.proofs.Spellings.{name_ascii, left_out_ascii, numeral_digits}
 use Rattle.smv_parse.proofs.Cutting.{token_at, cut_token, first_fits}
 
 -- ---- what the fields say
@@ -77,6 +78,18 @@ table_other {A = A} table (t ∷ ts) kind h e =
     let same : find_kind table t.kind ≡ None = let one : t.kind ≡ kind = cc in ap (find_kind table) one ∙ e in
     sym (find_has table t.kind) ∙ ap (is_some {T = A}) same
 
+pub table_stops : {A : Type 0} (table : List (Kind × A)) (ts : Tokens) → begins (kinds_of table) ts ≡ false → read_one_of table ts ≡ Stop Misfit ts
+table_stops table [] h = refl
+table_stops {A = A} table (t ∷ ts) h = ap (λ found. read_if found (t ∷ ts) ts) (is_none_found (find_kind table t.kind) (find_has table t.kind ∙ h)) where
+  is_none_found : (found : Option A) → is_some found ≡ false → found ≡ None
+  is_none_found None e = refl
+  is_none_found (Some a) e = cc
+
+-- whether the table has the kind of the next token
+pub table_seen : {A : Type 0} (table : List (Kind × A)) (c : Inside) (l : Lexeme) (r : Bool) → IsReady c → c.next ≡ Some l → r ≡ is_some (find_kind table l.kind) → r ≡ begins (kinds_of table) (tokens_left c)
+unfolding token_at
+table_seen table c l r ready is e = e ∙ find_has table l.kind ∙ sym (ap (begins (kinds_of table)) (first_token c l ready is))
+
 pub pair_read : {A B : Type 0} (f : Token → A) (g : Token → B) (ts : Tokens) (a : A) (b : B) → option_map f (next_of ts) ≡ Some a → option_map g (next_of ts) ≡ Some b
     → option_map {U = A × B} (λ t. (f t, g t)) (next_of ts) ≡ Some (a, b)
 pair_read f g [] a b p q = cc
@@ -95,6 +108,9 @@ first_kind c l kind ready is = ap (begins (kind ∷ [])) (first_token c l ready 
 pub name_is_ascii : (c : Inside) (l : Lexeme) → IsReady c → c.next ≡ Some l → begins (k.Name ∷ []) (tokens_left c) ≡ true → All (λ b. b < 128) (take l.len c.rest.now)
 name_is_ascii c l ready is h = let n = is_next_by c.rest.now c.next (Some l) ready.1 is in name_ascii l c.rest.now n.0 n.2 (sym (first_kind c l k.Name ready is) ∙ h)
 
+pub left_out_is_ascii : (c : Inside) (l : Lexeme) → IsReady c → c.next ≡ Some l → begins (k.LeftOut ∷ []) (tokens_left c) ≡ true → All (λ b. b < 128) (take l.len c.rest.now)
+left_out_is_ascii c l ready is h = let n = is_next_by c.rest.now c.next (Some l) ready.1 is in left_out_ascii l c.rest.now n.0 n.2 (sym (first_kind c l k.LeftOut ready is) ∙ h)
+
 pub numeral_is_digits : (c : Inside) (l : Lexeme) → IsReady c → c.next ≡ Some l → begins (k.Numeral ∷ []) (tokens_left c) ≡ true → IsNumeral (take l.len c.rest.now)
 numeral_is_digits c l ready is h = let n = is_next_by c.rest.now c.next (Some l) ready.1 is in numeral_digits l c.rest.now n.0 n.2 (sym (first_kind c l k.Numeral ready is) ∙ h)
 
@@ -103,3 +119,16 @@ ends_where_none c ready r e = by_next c.next refl where
   by_next : (next : Option Lexeme) → c.next ≡ next → IsTrue r ↔ (tokens_left c ≡ [])
   by_next None is = (λ h. no_token c ready is, λ h. let none : false ≡ not r = ap is_some (sym is) ∙ e in is_true r none)
   by_next (Some l) is = (λ h. absurd (let some : true ≡ not r = ap is_some (sym is) ∙ e in is_false r some h), λ h. absurd (let some = sym (first_token c l ready is) ∙ h in cc))
+
+-- a numeral that is not over the limit, or no numeral at all
+pub narrow_digits : (ts : Tokens) → begins (k.WideNumeral ∷ []) ts ≡ false → read_limited false ts ≡ read_numeral ts
+unfolding read_limited
+narrow_digits [] h = refl
+narrow_digits (t ∷ ts) h = ap (λ v. cond v (Stop Wide (t ∷ ts)) (read_digits (t ∷ ts))) h ∙ ap (λ v. read_if (cond v (Some (number_of t)) None) (t ∷ ts) ts) (one_kind (same_kind t.kind k.Numeral) _ h)
+  where
+    one_kind : (v w : Bool) → w ≡ false → v || w ≡ v || false
+    one_kind v w e = ap (λ x. v || x) e
+
+pub wide_stops : (ts : Tokens) → begins (k.WideNumeral ∷ []) ts ≡ true → read_limited false ts ≡ Stop Wide ts
+unfolding read_limited
+wide_stops ts h = ap (λ v. cond v (Stop Wide ts) (read_digits ts)) h

@@ -4,9 +4,9 @@ use Rattle.std.proofs.Common.{◌≡◌, ℕ, zero, suc, ◌+◌, ◌≤◌, Boo
 use Rattle.smv_parse.specs.declared.kind.Kind.{Kind}
 use Rattle.smv_parse.specs.Lexicon.{Token}
 use Rattle.smv_parse.specs.Language.{Tokens, leaf, dep, both, many, either, made, nothing, begins, has, next_of}
-use Rattle.smv_parse.specs.Reading.{Cause, Outcome, Reader, and_then, read_if, read_leaf, read_dep, read_both, read_made, read_either, read_nothing}
+use Rattle.smv_parse.specs.Reading.{Cause, Alike, Outcome, Reader, and_then, read_if, read_leaf, read_dep, read_both, read_made, read_either, read_nothing}
 use Rattle.smv_parse.specs.Reading.Outcome.{Read, Stop}
-use Rattle.smv_parse.specs.Reading.Cause.{Misfit, Deep}
+use Rattle.smv_parse.specs.Reading.Cause.{Misfit, Wide, Deep}
 
 -- ---- what a reader owes
 
@@ -25,6 +25,7 @@ pub record Took {A : Type 0} (limit : ℕ) (L : ℕ → A → Tokens → Type 0)
 -- at which depths nothing can be read, for a cause
 abbrev pub Covers : ℕ → Cause → ℕ → Type 0
 Covers limit Misfit m = Unit {0}
+Covers limit Wide m = Unit {0}
 Covers limit Deep m = m ≤ limit
 
 -- The reader stops at the rest: what stands before it can be gone on with, and not with the next token.
@@ -35,7 +36,7 @@ pub record Halts {A : Type 0} (limit : ℕ) (L : ℕ → A → Tokens → Type 0
   pub value : A
   pub more : Tokens
   pub viable : L depth value (front ++ more)
-  pub dead : (m : ℕ) (y f r : Tokens) (b : A) → Covers limit cause m → next_of y ≡ next_of rest → f ++ r ≡ front ++ y → L m b f → begins (goes b) r ≡ false → ⊥
+  pub dead : (m : ℕ) (y f r : Tokens) (b : A) → Covers limit cause m → Alike cause y rest → f ++ r ≡ front ++ y → L m b f → begins (goes b) r ≡ false → ⊥
 
 abbrev pub Good : {A : Type 0} → ℕ → (ℕ → A → Tokens → Type 0) → (A → List Kind) → Tokens → Outcome A → Type 0
 Good limit L goes ts (Read a rest) = Took limit L goes ts a rest
@@ -67,6 +68,11 @@ pub record GoesWithin {A B : Type 0} (fun : A → B) (goes : A → List Kind) (g
   pub at : (a : A) (r : Tokens) → begins (goes' (fun a)) r ≡ false → begins (goes a) r ≡ false
 
 -- ---- the next token
+
+pub alike_next : (cause : Cause) (y z : Tokens) → Alike cause y z → next_of y ≡ next_of z
+alike_next Misfit y z a = a
+alike_next Wide y z a = a
+alike_next Deep y z a = a.0
 
 pub next-append : (c y z : Tokens) → next_of y ≡ next_of z → next_of (c ++ y) ≡ next_of (c ++ z)
 next-append [] y z e = e
@@ -139,7 +145,7 @@ module _ {A B : Type 0} (limit : ℕ) (L : ℕ → A → Tokens → Type 0) (M :
       more = v.more;
       viable = record { front = w.front; back = v.front ++ v.more; split = append_assoc w.front v.front v.more; first = l.up _ _ _ _ w.reads; second = up_right (M a) (k a) _ _ _ _ v.viable };
       dead = λ m y f r c u n e b z.
-          let one = w.only m (v.front ++ y) b.front (b.back ++ r) c.0 (next-append v.front y rest' n ∙ ap next_of (sym v.split))
+          let one = w.only m (v.front ++ y) b.front (b.back ++ r) c.0 (next-append v.front y rest' (alike_next cause y rest' n) ∙ ap next_of (sym v.split))
           (regroup f b.front b.back r _ b.split e ∙ append_assoc w.front v.front y) b.first ((follows c.0).at m c.1 b.back r b.second z) in
           v.dead m y b.back r c.1 u n one.2 (moved c.0 a m c.1 b.back one.0 b.second) (moved_end c.0 a c.1 r one.0 z);
     }
@@ -271,9 +277,9 @@ module _ {A : Type 0} (limit : ℕ) (L M : ℕ → A → Tokens → Type 0) wher
       only m y f r b n e (inl x) z = w.only m y f r b n e x (g_in.at b r z)
       only m y f r b n e (inr x) z = absurd (not_right ts w.front rest y f r m b v w.split n e x z)
     left ts v (Stop cause rest) w = record { front = w.front; split = w.split; depth = w.depth; value = w.value; more = w.more; viable = inl w.viable; dead = dead } where
-      dead : (m : ℕ) (y f r : Tokens) (b : A) → Covers limit cause m → next_of y ≡ next_of rest → f ++ r ≡ w.front ++ y → either (L m) (M m) b f → begins (k b) r ≡ false → ⊥
+      dead : (m : ℕ) (y f r : Tokens) (b : A) → Covers limit cause m → Alike cause y rest → f ++ r ≡ w.front ++ y → either (L m) (M m) b f → begins (k b) r ≡ false → ⊥
       dead m y f r b u n e (inl x) z = w.dead m y f r b u n e x (g_in.at b r z)
-      dead m y f r b u n e (inr x) z = not_right ts w.front rest y f r m b v w.split n e x z
+      dead m y f r b u n e (inr x) z = not_right ts w.front rest y f r m b v w.split (alike_next cause y rest n) e x z
 
     right : (ts : Tokens) → begins set ts ≡ false → (o : Outcome A) → Good limit M h ts o → Good limit (λ m. either (L m) (M m)) k ts o
     right ts v (Read a rest) w = record { front = w.front; split = w.split; reads = inr w.reads; only = only } where
@@ -281,9 +287,9 @@ module _ {A : Type 0} (limit : ℕ) (L M : ℕ → A → Tokens → Type 0) wher
       only m y f r b n e (inr x) z = w.only m y f r b n e x (h_in.at b r z)
       only m y f r b n e (inl x) z = absurd (not_left ts w.front rest y f r m b v w.split n e x)
     right ts v (Stop cause rest) w = record { front = w.front; split = w.split; depth = w.depth; value = w.value; more = w.more; viable = inr w.viable; dead = dead } where
-      dead : (m : ℕ) (y f r : Tokens) (b : A) → Covers limit cause m → next_of y ≡ next_of rest → f ++ r ≡ w.front ++ y → either (L m) (M m) b f → begins (k b) r ≡ false → ⊥
+      dead : (m : ℕ) (y f r : Tokens) (b : A) → Covers limit cause m → Alike cause y rest → f ++ r ≡ w.front ++ y → either (L m) (M m) b f → begins (k b) r ≡ false → ⊥
       dead m y f r b u n e (inr x) z = w.dead m y f r b u n e x (h_in.at b r z)
-      dead m y f r b u n e (inl x) z = not_left ts w.front rest y f r m b v w.split n e x
+      dead m y f r b u n e (inl x) z = not_left ts w.front rest y f r m b v w.split (alike_next cause y rest n) e x
 
     pub choose : (ts : Tokens) (v : Bool) (o o' : Outcome A) → begins set ts ≡ v → (v ≡ true → Good limit L g ts o) → (v ≡ false → Good limit M h ts o')
         → Good limit (λ m. either (L m) (M m)) k ts (cond v o o')

@@ -1,5 +1,5 @@
 -- Loops: their turns one by one, and gathered into a list.
-use Rattle.std.proofs.Common.{◌≡◌, ℕ, zero, suc, ◌≤◌, ◌<◌, Bool, true, false, List, [], ◌∷◌, ◌++◌, length, fold, refl, sym, ◌∙◌, ap, subst, arith, append_assoc, append-nil, length-append, cond}
+use Rattle.std.proofs.Common.{◌≡◌, ℕ, zero, suc, ◌-◌, ◌≤◌, ◌<◌, Bool, true, false, List, [], ◌∷◌, ◌++◌, length, fold, refl, sym, ◌∙◌, ap, subst, arith, append_assoc, append-nil, length-append, cond}
 use Rattle.smv_parse.specs.declared.kind.Kind.{Kind}
 use Rattle.smv_parse.specs.Language.{Tokens, begins}
 use Rattle.smv_parse.specs.Reading.{Outcome, Reader, and_then, read_turns, read_fold, pushed}
@@ -121,3 +121,8 @@ pub chained : {A B : Type 0} (o : Outcome B) (set : List Kind) (q : Reader A) (s
     ≡ and_then o (λ b rest. read_fold set q step b rest)
 chained (Read b rest) set q step = chained_in step b (read_list set q rest) ∙ sym (fold_gathers set q step b rest)
 chained (Stop cause rest) set q step = refl
+
+-- ---- recursion on a number of the code
+
+pub deeper : {A : Type 0} (P : ℕ → A) (depth : ℕ) → 0 < depth → P depth ≡ P (suc (depth - 1))
+deeper P depth h = let same : depth ≡ suc (depth - 1) = omega arith in ap P same

@@ -3,12 +3,14 @@ use Rattle.std.proofs.Common.{◌≡◌, ℕ, ◌+◌, Bool, true, false, ◌||�
 use Rattle.std.specs.Prelude.{is_some}
 use Rattle.smv_parse.specs.declared.kind.Kind.{Kind}
 use Rattle.smv_parse.specs.declared.kind.Kind.TheVariants as k
-use Rattle.smv_parse.specs.Lexicon.{Token}
-use Rattle.smv_parse.specs.Language.{Tokens, leaf, of_kind, find_kind, kinds_of, place_of, name_of, number_of, word, name, numeral, one_of, dep, both, many, opt, either, made, nothing, begins, has}
-use Rattle.smv_parse.specs.Reading.{Outcome, Reader, read_leaf, read_word, read_name, read_numeral, read_one_of, read_dep, read_both, read_made, read_either, read_nothing, read_opt, read_fold, read_many, and_then, pushed}
+use Rattle.smv_parse.specs.Lexicon.{Token, same_kind}
+use Rattle.smv_parse.specs.Language.{Tokens, leaf, of_kind, of_kinds, number_kinds, digits, find_kind, kinds_of, place_of, name_of, number_of, word, name, numeral, one_of, dep, both, many, opt, either, made, nothing, begins, has}
+use Rattle.smv_parse.specs.Reading.{Outcome, Reader, read_leaf, read_word, read_name, read_numeral, read_one_of, read_dep, read_both, read_made, read_either, read_nothing, read_opt, read_fold, read_more, read_many, read_digits, and_then, pushed}
 use Rattle.smv_parse.proofs.Rules as rules
 use Rattle.smv_parse.proofs.Rules.{Good, IsLang, Rule, Starts, Leaves, GoesWithin, read_list}
-use Rattle.smv_parse.proofs.Turns.{many_gathers, chained}
+use Rattle.smv_parse.proofs.Turns.{many_gathers, chained, then_same}
+use Rattle.smv_parse.proofs.RowTurns.{never_ended}
+use Rattle.smv_parse.specs.ExprGrammar.{never_ends}
 use Rattle.smv_parse.proofs.NextToken.{find_has}
 use Rattle.smv_parse.proofs.Sets.{within, disjoint, begins_within, begins_apart, begins_not_within, begins_none, has_within, true_same_kind}
 
@@ -24,16 +26,16 @@ goes_within less more w = record { at = λ a r z. begins_not_within less more w 
 pub starts_leaf : {A : Type 0} {f : Token → Option A} (set : List Kind) → ((t : Token) (a : A) → f t ≡ Some a → has set t.kind ≡ true) → Starts set (λ m. leaf f)
 starts_leaf set h = record { at = λ m a f w. subst (λ (x : Tokens). begins set x ≡ true) (sym w.1) (h w.0 a w.2) }
 
-kind_has : {A : Type 0} (kind : Kind) (f : Token → A) (t : Token) (a : A) → of_kind kind f t ≡ Some a → has (kind ∷ []) t.kind ≡ true
-kind_has kind f t a = by_case (has (kind ∷ []) t.kind) where
+pub kinds_have : {A : Type 0} (kinds : List Kind) (f : Token → A) (t : Token) (a : A) → of_kinds kinds f t ≡ Some a → has kinds t.kind ≡ true
+kinds_have kinds f t a = by_case (has kinds t.kind) where
   by_case : (v : Bool) → cond v (Some (f t)) None ≡ Some a → v ≡ true
   by_case true e = refl
   by_case false e = cc
 
 starts_kind : {A : Type 0} (f : Token → A) (kind : Kind) (set : List Kind) → within (kind ∷ []) set ≡ true → Starts set (λ m. leaf (of_kind kind f))
-starts_kind f kind set w = starts_leaf set (λ t a e. has_within (kind ∷ []) set t.kind w (kind_has kind f t a e))
+starts_kind f kind set w = starts_leaf set (λ t a e. has_within (kind ∷ []) set t.kind w (kinds_have (kind ∷ []) f t a e))
 
-within_itself : (kind : Kind) → within (kind ∷ []) (kind ∷ []) ≡ true
+pub within_itself : (kind : Kind) → within (kind ∷ []) (kind ∷ []) ≡ true
 within_itself kind = ap (λ v. (v || false) && true) (true_same_kind kind kind refl)
 
 pub starts_word : (kind : Kind) (set : List Kind) → within (kind ∷ []) set ≡ true → Starts set (λ m. word kind)
@@ -44,6 +46,9 @@ starts_name set w = starts_kind name_of k.Name set w
 
 pub starts_numeral : (set : List Kind) → within (k.Numeral ∷ []) set ≡ true → Starts set (λ m. numeral)
 starts_numeral set w = starts_kind number_of k.Numeral set w
+
+pub starts_digits : (set : List Kind) → within number_kinds set ≡ true → Starts set (λ m. digits)
+starts_digits set w = starts_leaf set (λ t a e. has_within number_kinds set t.kind w (kinds_have number_kinds number_of t a e))
 
 pub starts_table : {A : Type 0} (table : List (Kind × A)) (set : List Kind) → within (kinds_of table) set ≡ true → Starts set (λ m. one_of table)
 starts_table {A = A} table set w = starts_leaf set (λ t a e. has_within (kinds_of table) set t.kind w (sym (find_has table t.kind) ∙ ap (is_some {T = A}) e))
@@ -115,6 +120,10 @@ tok_name = kind_rule k.Name name_of
 
 pub tok_numeral : {limit : ℕ} → Rule limit (λ m. numeral) (always []) read_numeral
 tok_numeral = kind_rule k.Numeral number_of
+
+pub tok_digits : {limit : ℕ} → Rule limit (λ m. digits) (always []) read_digits
+unfolding same_kind
+tok_digits = leaf_rule (of_kinds number_kinds number_of) (some_token k.Numeral) (number_of (some_token k.Numeral)) refl
 
 -- a table, with one of its entries
 pub tok_one_of : {A : Type 0} {limit : ℕ} (table : List (Kind × A)) (entry : Kind × A) → find_kind table entry.0 ≡ Some entry.1 → Rule limit (λ m. one_of table) (always []) (read_one_of table)
@@ -191,9 +200,9 @@ collect {p = p} set goes a s gw sw d = same (read_fold set p pushed []) (λ ts. 
 -- a first value, and then what any number of turns add to it
 pub chain : {A B : Type 0} {limit : ℕ} {L : ℕ → B → Tokens → Type 0} {M : ℕ → A → Tokens → Type 0} {g h : List Kind} {p : Reader B} {q : Reader A} (set goes : List Kind) (step : B → A → B)
     → Rule limit L (always g) p → Rule limit M (always h) q → Starts set M → within h goes ≡ true → within set goes ≡ true → disjoint set h ≡ true → Leaves g (always goes) (λ m. many (M m))
-    → Rule limit (λ m. made (λ v. fold step v.0 v.1) (both (L m) (many (M m)))) (always goes) (λ ts. and_then (p ts) (λ b rest. read_fold set q step b rest))
+    → Rule limit (λ m. made (λ v. fold step v.0 v.1) (both (L m) (many (M m)))) (always goes) (λ ts. and_then (p ts) (λ b rest. read_more set never_ends (λ x. q) step b rest))
 chain {p = p} {q = q} set goes step a b s hw sw d f =
-    same (λ ts. and_then (p ts) (λ b rest. read_fold set q step b rest)) (λ ts. chained (p ts) set q step) (map (λ v. fold step v.0 v.1) (seq a (loop set goes b s hw sw d) f))
+    same (λ ts. and_then (p ts) (λ b rest. read_more set never_ends (λ x. q) step b rest)) (λ ts. chained (p ts) set q step ∙ then_same (p ts) _ _ (λ b rest e. sym (never_ended set q step b rest))) (map (λ v. fold step v.0 v.1) (seq a (loop set goes b s hw sw d) f))
 
 -- ---- values that say with what they go on
 

@@ -30,7 +30,8 @@ pub record StopsAt {A : Type 0} (L : A → Tokens → Type 0) (ts rest : Tokens)
 abbrev pub Ends : {A : Type 0} → (A → Tokens → Type 0) → Tokens → Result A ReadError → Tokens → Type 0
 Ends L ts (Ok a) new = IsOnly L ts a
 Ends L ts (Err error.NoMemory) new = Unit {0}
-Ends L ts (Err error.Unexpected) new = StopsAt L ts new
+Ends L ts (Err error.TooNested) new = Unit {0}
+Ends L ts (Err _) new = StopsAt L ts new
 
 -- where the next token stands, or the end of the file
 abbrev pub stand : ℕ → Bytes → Tokens → Span

@@ -1,5 +1,8 @@
--- The reader of each part of an expression.
-use Rattle.std.specs.Prelude.{ℕ, zero, suc, ℤ, pos, neg_ℤ, List, [], ◌∷◌}
+-- The reader of each part of an expression. Within a limit a reader stops at the first token at which it is passed:
+-- at a numeral over the limit for numbers, or where too many constructs are open before the token, or where the tree of
+-- the expression that ends with the token is too high. Without a limit it reads what the grammar says.
+use Rattle.std.specs.Prelude.{ℕ, zero, suc, Bool, true, ◌&&◌, if◌then◌else◌, ℤ, pos, neg_ℤ, List, [], ◌∷◌}
+use Rattle.smv_ast.specs.declared.syntax.Span.{Span}
 use Rattle.smv_ast.specs.declared.syntax.Op.{Op}
 use Rattle.smv_ast.specs.declared.syntax.Choice.{Choice}
 use Rattle.smv_ast.specs.declared.syntax.Choice.TheVariants as choice
@@ -9,184 +12,295 @@ use Rattle.smv_ast.specs.declared.syntax.Branch.{Branch}
 use Rattle.smv_parse.specs.declared.kind.Kind.{Kind}
 use Rattle.smv_parse.specs.declared.kind.Kind.TheVariants as k
 use Rattle.smv_parse.specs.Lexicon.{Bytes}
-use Rattle.smv_parse.specs.Language.{kinds_of}
-use Rattle.smv_parse.specs.Reading.{Reader, and_then, read_word, read_name, read_numeral, read_one_of, read_both, read_made, read_either, read_opt, read_many, read_fold, read_more, read_deep}
-use Rattle.smv_parse.specs.Grammar.{branch_of, cases_of}
-use Rattle.smv_parse.specs.ExprGrammar.{term_operators, sum_operators, comparisons, and_operators, or_operators, iff_operators, joined, Operand, is_closed, still, closed, joined_operand, within_operand, implied, path_of, number_or_interval, negated_number_or_interval}
+use Rattle.smv_parse.specs.Language.{kinds_of, number_kinds, begins, followed_by}
+use Rattle.smv_parse.specs.Reading.{Reader, and_then, read_word, read_name, read_digits, read_one_of, read_dep, read_both, read_made, read_either, read_opt, read_many, read_more, read_deep, read_allowed}
+use Rattle.smv_parse.specs.Reading.Cause.{Wide, Deep}
+use Rattle.smv_parse.specs.Grammar.{number_expr, branch_of, cases_of}
+use Rattle.smv_parse.specs.ExprGrammar.{term_operators, sum_operators, comparisons, and_operators, or_operators, iff_operators, joined, Operand, is_closed, still, closed, joined_operand, never_ends, within_operand, implied, path_of, negative_interval_of}
+use Rattle.smv_parse.specs.Heights.{height, choice_height}
+use Rattle.smv_parse.specs.Limits.{Limit, any_number, fits, inside, beside, anew}
 
 -- ---- what the parts begin with
 
+-- what begins with no sign and no digit
 abbrev pub first_bare : List Kind
 first_bare = k.True ∷ k.False ∷ k.Name ∷ k.OpenParen ∷ k.OpenBrace ∷ k.Next ∷ k.Case ∷ []
 
+-- what begins with no digit
 abbrev pub first_signed : List Kind
 first_signed = k.Minus ∷ first_bare
 
+-- an operand of a product
 abbrev pub first_unary : List Kind
-first_unary = k.Numeral ∷ first_signed
+first_unary = k.Numeral ∷ k.WideNumeral ∷ first_signed
 
+-- an expression
 abbrev pub first_expr : List Kind
 first_expr = k.Not ∷ first_unary
 
--- ---- numbers and paths
+-- ---- the limits
 
-unfoldable pub read_sign : Reader ℤ
-read_sign = read_either (k.Minus ∷ []) (read_made (λ p. neg_ℤ (pos p.1.0)) (read_both (read_word k.Minus) read_numeral)) (read_made (λ n. pos n.0) read_numeral)
+-- a numeral: of any size, or within the limit for numbers
+unfoldable pub read_limited : Bool → Reader (ℕ × Span)
+read_limited any = read_allowed any Wide (k.WideNumeral ∷ []) read_digits
 
-unfoldable pub read_up_to : Reader ℤ
-read_up_to = read_made (λ p. p.1) (read_both (read_word k.DotDot) read_sign)
+-- the numeral with which a tree ends that fits, or does not
+unfoldable pub read_last : Bool → Bool → Reader (ℕ × Span)
+read_last any ok = read_allowed ok Deep (k.Numeral ∷ []) (read_limited any)
 
-unfoldable pub read_number : Reader Expr
-read_number = read_made (λ p. number_or_interval p.0.0 p.1) (read_both read_numeral (read_opt (k.DotDot ∷ []) read_up_to))
+-- the word or mark with which a tree ends that fits, or does not
+unfoldable pub read_close : Bool → Kind → Reader Span
+read_close ok kind = read_allowed ok Deep (kind ∷ []) (read_word kind)
 
-unfoldable pub read_negated_number : Reader Expr
-read_negated_number = read_made (λ p. negated_number_or_interval p.0.0 p.1) (read_both read_numeral (read_opt (k.DotDot ∷ []) read_up_to))
+-- what begins with one of `first`, where too many constructs are open
+unfoldable pub read_too_deep : {A : Type 0} → Bool → List Kind → Reader A
+read_too_deep any first = read_allowed any Wide (k.WideNumeral ∷ []) (read_deep first)
 
+-- ---- numbers and paths. `any` tells that numbers may be of any size, `ok` that the tree that ends there fits.
+
+-- [ - ] numeral
+unfoldable pub read_sign : Bool → Bool → Reader ℤ
+read_sign any ok = read_either (k.Minus ∷ []) (read_made (λ p. neg_ℤ (pos p.1.0)) (read_both (read_word k.Minus) (read_last any ok))) (read_made (λ n. pos n.0) (read_last any ok))
+
+-- .. sign
+unfoldable pub read_up_to : Bool → Bool → Reader ℤ
+read_up_to any ok = read_made (λ p. p.1) (read_both (read_word k.DotDot) (read_sign any ok))
+
+-- the interval that a numeral begins
+abbrev pub interval_of : (ℕ × Span) × ℤ → Expr
+interval_of p = e.Pick (choice.Between (pos p.0.0) p.1)
+
+-- numeral .. sign
+unfoldable pub read_interval_expr : Bool → Bool → Reader Expr
+read_interval_expr any ok = read_made interval_of (read_both (read_limited any) (read_up_to any ok))
+
+-- numeral
+unfoldable pub read_single : Bool → Bool → Reader Expr
+read_single any ok = read_made number_expr (read_last any ok)
+
+-- numeral | numeral .. sign
+unfoldable pub read_number : Bool → Bool → Reader Expr
+read_number any ok ts = if followed_by k.DotDot ts then read_interval_expr any ok ts else read_single any ok ts
+
+-- numeral .. sign, behind a `-`
+unfoldable pub read_negative_interval : Bool → Bool → Reader Expr
+read_negative_interval any ok = read_made negative_interval_of (read_both (read_limited any) (read_up_to any ok))
+
+-- . id
 unfoldable pub read_dotted : Reader Bytes
 read_dotted = read_made (λ p. p.1.0) (read_both (read_word k.Dot) read_name)
 
+-- { . id }
 unfoldable pub read_dotted_names : Reader (List Bytes)
 read_dotted_names = read_many (k.Dot ∷ []) read_dotted
 
-unfoldable pub read_path : Reader Expr
-read_path = read_made path_of (read_both read_name read_dotted_names)
+-- the name with which a tree ends that fits, or does not
+unfoldable pub read_first_name : Bool → Reader (Bytes × Span)
+read_first_name ok = read_allowed ok Deep (k.Name ∷ []) read_name
 
--- ---- expressions
+-- id { . id }
+unfoldable pub read_path : Bool → Reader Expr
+read_path ok = read_made path_of (read_both (read_first_name ok) read_dotted_names)
 
-module _ (w n u : Reader Expr) where
-  unfoldable pub read_parens : Reader Expr
-  read_parens = read_made (λ p. p.1.0) (read_both (read_word k.OpenParen) (read_both w (read_word k.CloseParen)))
+-- ---- expressions. `w` reads whole expressions, `n` what may follow `!`, `u` what may follow a `-` that negates.
 
-  unfoldable pub read_next_value : Reader Expr
-  read_next_value = read_made (λ p. e.Next p.1) (read_both (read_word k.Next) read_parens)
+module _ (w n u : Limit → Reader Expr) where
+  -- ( expr )
+  unfoldable pub read_parens : Limit → Reader Expr
+  read_parens limit = read_made (λ p. p.1.0) (read_both (read_word k.OpenParen) (read_dep (w (anew limit)) (λ a. read_close (fits limit (height a)) k.CloseParen)))
 
-  unfoldable pub read_listed : Reader Expr
-  read_listed = read_made (λ p. p.1) (read_both (read_word k.Comma) w)
+  -- next ( expr )
+  unfoldable pub read_next_value : Limit → Reader Expr
+  read_next_value limit = read_made (λ p. e.Next p.1) (read_both (read_word k.Next) (read_parens (inside limit)))
 
-  unfoldable pub read_more_listed : Reader (List Expr)
-  read_more_listed = read_many (k.Comma ∷ []) read_listed
+  -- , expr
+  unfoldable pub read_listed : Limit → Reader Expr
+  read_listed limit = read_made (λ p. p.1) (read_both (read_word k.Comma) (w (anew limit)))
 
-  unfoldable pub read_braces : Reader Choice
-  read_braces = read_made (λ p. choice.Each (p.1.0.0 ∷ p.1.0.1)) (read_both (read_word k.OpenBrace) (read_both (read_both w read_more_listed) (read_word k.CloseBrace)))
+  -- { , expr }
+  unfoldable pub read_more_listed : Limit → Reader (List Expr)
+  read_more_listed limit = read_many (k.Comma ∷ []) (read_listed limit)
 
-  unfoldable pub read_interval : Reader Choice
-  read_interval = read_made (λ p. choice.Between p.0 p.1) (read_both read_sign read_up_to)
+  -- { expr { , expr } }
+  unfoldable pub read_braces : Limit → Reader Choice
+  read_braces limit = read_made (λ p. choice.Each (p.1.0.0 ∷ p.1.0.1)) (read_both (read_word k.OpenBrace)
+      (read_dep (read_both (w (anew limit)) (read_more_listed limit)) (λ parts. read_close (fits limit (choice_height (choice.Each (parts.0 ∷ parts.1)))) k.CloseBrace)))
 
-  unfoldable pub read_choice : Reader Choice
-  read_choice = read_either (k.OpenBrace ∷ []) read_braces read_interval
+  -- sign .. sign
+  unfoldable pub read_interval : Limit → Reader Choice
+  read_interval limit = read_made (λ p. choice.Between p.0 p.1) (read_both (read_sign (any_number limit) true) (read_up_to (any_number limit) (fits limit 0)))
 
-  unfoldable pub read_branch : Reader Branch
-  read_branch = read_made branch_of (read_both w (read_both (read_word k.Colon) (read_both w (read_word k.Semicolon))))
+  -- a choice behind `in`
+  unfoldable pub read_choice : Limit → Reader Choice
+  read_choice limit = read_either (k.OpenBrace ∷ []) (read_braces limit) (read_interval limit)
 
-  unfoldable pub read_branches : Reader (List Branch)
-  read_branches = read_many first_expr read_branch
+  -- expr : expr ;
+  unfoldable pub read_branch : Limit → Reader Branch
+  read_branch limit = read_made branch_of (read_both (w (anew limit)) (read_both (read_word k.Colon) (read_both (w (anew limit)) (read_word k.Semicolon))))
 
-  unfoldable pub read_cases : Reader Expr
-  read_cases = read_made cases_of (read_both (read_word k.Case) (read_both read_branch (read_both read_branches (read_word k.Esac))))
+  -- { branch }
+  unfoldable pub read_branches : Limit → Reader (List Branch)
+  read_branches limit = read_many first_expr (read_branch limit)
 
-  unfoldable pub read_bare : Reader Expr
-  read_bare =
-      read_either (k.True ∷ []) (read_made (λ at. e.True) (read_word k.True)) (
-      read_either (k.False ∷ []) (read_made (λ at. e.False) (read_word k.False)) (
-      read_either (k.Name ∷ []) read_path (
-      read_either (k.OpenParen ∷ []) read_parens (
-      read_either (k.OpenBrace ∷ []) (read_made e.Pick read_braces) (
-      read_either (k.Next ∷ []) read_next_value read_cases)))))
+  -- case branch { branch } esac
+  unfoldable pub read_cases : Limit → Reader Expr
+  read_cases limit = read_made cases_of (read_both (read_word k.Case) (read_dep (read_branch limit) (λ first. read_dep (read_branches limit) (λ more. read_close (fits limit (height (e.Cases (first ∷ more)))) k.Esac))))
 
-  unfoldable pub read_minus : Reader Expr
-  read_minus = read_made (λ p. p.1) (read_both (read_word k.Minus) (read_either (k.Numeral ∷ []) read_negated_number (read_made e.Neg u)))
+  -- what begins with no sign and no digit
+  unfoldable pub read_bare : Limit → Reader Expr
+  read_bare limit =
+      read_either (k.True ∷ []) (read_made (λ at. e.True) (read_close (fits limit 1) k.True)) (
+      read_either (k.False ∷ []) (read_made (λ at. e.False) (read_close (fits limit 1) k.False)) (
+      read_either (k.Name ∷ []) (read_path (fits limit 1)) (
+      read_either (k.OpenParen ∷ []) (read_parens limit) (
+      read_either (k.OpenBrace ∷ []) (read_made e.Pick (read_braces (inside limit))) (
+      read_either (k.Next ∷ []) (read_next_value limit) (read_cases limit))))))
 
-  unfoldable pub read_signed : Reader Expr
-  read_signed = read_either (k.Minus ∷ []) read_minus read_bare
+  -- what may follow a `-`: numeral .. sign | unary
+  unfoldable pub read_negated : Limit → Reader Expr
+  read_negated limit ts = if begins number_kinds ts && followed_by k.DotDot ts then read_negative_interval (any_number limit) (fits limit 1) ts else read_made e.Neg (u (inside limit)) ts
 
-  unfoldable pub read_unary : Reader Expr
-  read_unary = read_either (k.Numeral ∷ []) read_number read_signed
+  -- - numeral .. sign | - unary
+  unfoldable pub read_minus : Limit → Reader Expr
+  read_minus limit = read_made (λ p. p.1) (read_both (read_word k.Minus) (read_negated limit))
 
-  unfoldable pub read_negation : Reader Expr
-  read_negation = read_made (λ p. e.Not p.1) (read_both (read_word k.Not) n)
+  -- what begins with no digit
+  unfoldable pub read_signed : Limit → Reader Expr
+  read_signed limit = read_either (k.Minus ∷ []) (read_minus limit) (read_bare limit)
 
-  abbrev pub read_right_of : Reader Operand → Reader Operand
-  read_right_of p = read_either (k.Not ∷ []) (read_made closed read_negation) p
+  -- what may stand between the operators of products
+  unfoldable pub read_unary : Limit → Reader Expr
+  read_unary limit = read_either number_kinds (read_number (any_number limit) (fits limit 1)) (read_signed limit)
 
-  unfoldable pub read_term_item : Reader (Op × Operand)
-  read_term_item = read_both (read_one_of term_operators) (read_right_of (read_made still read_unary))
+  -- what may follow a `-` that negates: a numeral begins no interval there
+  unfoldable pub read_negatable : Limit → Reader Expr
+  read_negatable limit = read_either number_kinds (read_single (any_number limit) (fits limit 1)) (read_signed limit)
 
-  unfoldable pub read_more_term : Operand → Reader Operand
-  read_more_term a = read_more (kinds_of term_operators) is_closed read_term_item joined_operand a
+  -- ! not
+  unfoldable pub read_negation : Limit → Reader Expr
+  read_negation limit = read_made (λ p. e.Not p.1) (read_both (read_word k.Not) (n (inside limit)))
 
-  unfoldable pub read_term : Reader Operand
-  read_term ts = and_then ((read_made still read_unary) ts) read_more_term
+  -- an operand that begins with `!`
+  unfoldable pub read_closed : Limit → Reader Operand
+  read_closed limit = read_made closed (read_negation limit)
 
-  unfoldable pub read_sum_item : Reader (Op × Operand)
-  read_sum_item = read_both (read_one_of sum_operators) (read_right_of read_term)
+  -- an operand behind an operator, which may begin with `!`
+  abbrev pub read_right_of : Reader Operand → Limit → Reader Operand
+  read_right_of p limit = read_either (k.Not ∷ []) (read_closed limit) p
 
-  unfoldable pub read_more_sum : Operand → Reader Operand
-  read_more_sum a = read_more (kinds_of sum_operators) is_closed read_sum_item joined_operand a
+  -- an operand of a product
+  unfoldable pub read_operand : Limit → Reader Operand
+  read_operand limit = read_made still (read_unary limit)
 
-  unfoldable pub read_sum : Reader Operand
-  read_sum ts = and_then (read_term ts) read_more_sum
+  -- ( * | mod ) unary
+  unfoldable pub read_term_item : Limit → Reader (Op × Operand)
+  read_term_item limit = read_both (read_one_of term_operators) (read_right_of (read_operand limit) limit)
 
-  unfoldable pub read_in_choice : Reader Choice
-  read_in_choice = read_made (λ p. p.1) (read_both (read_word k.In) read_choice)
+  -- { ( * | mod ) unary }, behind a first operand
+  unfoldable pub read_more_term : Limit → Operand → Reader Operand
+  read_more_term limit a = read_more (kinds_of term_operators) is_closed (λ b. read_term_item (beside (height b.0) limit)) joined_operand a
 
-  unfoldable pub read_more_within : Operand → Reader Operand
-  read_more_within a = read_more (k.In ∷ []) is_closed read_in_choice within_operand a
+  -- a product
+  unfoldable pub read_term : Limit → Reader Operand
+  read_term limit ts = and_then (read_operand limit ts) (read_more_term limit)
 
-  unfoldable pub read_within : Reader Operand
-  read_within ts = and_then (read_sum ts) read_more_within
+  -- ( + | - ) term
+  unfoldable pub read_sum_item : Limit → Reader (Op × Operand)
+  read_sum_item limit = read_both (read_one_of sum_operators) (read_right_of (read_term limit) limit)
 
-  unfoldable pub read_comparison_item : Reader (Op × Operand)
-  read_comparison_item = read_both (read_one_of comparisons) (read_right_of read_within)
+  -- { ( + | - ) term }, behind a first operand
+  unfoldable pub read_more_sum : Limit → Operand → Reader Operand
+  read_more_sum limit a = read_more (kinds_of sum_operators) is_closed (λ b. read_sum_item (beside (height b.0) limit)) joined_operand a
 
-  unfoldable pub read_more_comparison : Operand → Reader Operand
-  read_more_comparison a = read_more (kinds_of comparisons) is_closed read_comparison_item joined_operand a
+  -- a sum
+  unfoldable pub read_sum : Limit → Reader Operand
+  read_sum limit ts = and_then (read_term limit ts) (read_more_sum limit)
 
-  unfoldable pub read_comparison : Reader Operand
-  read_comparison ts = and_then (read_within ts) read_more_comparison
+  -- in choice
+  unfoldable pub read_in_choice : Limit → Reader Choice
+  read_in_choice limit = read_made (λ p. p.1) (read_both (read_word k.In) (read_choice limit))
 
-  unfoldable pub read_not_level : Reader Expr
-  read_not_level = read_either (k.Not ∷ []) read_negation (read_made (λ p. p.0) read_comparison)
+  -- { in choice }, behind a first operand
+  unfoldable pub read_more_within : Limit → Operand → Reader Operand
+  read_more_within limit a = read_more (k.In ∷ []) is_closed (λ b. read_in_choice (beside (height b.0) limit)) within_operand a
 
-  unfoldable pub read_and_item : Reader (Op × Expr)
-  read_and_item = read_both (read_one_of and_operators) read_not_level
+  -- what may stand between comparisons
+  unfoldable pub read_within : Limit → Reader Operand
+  read_within limit ts = and_then (read_sum limit ts) (read_more_within limit)
 
-  unfoldable pub read_more_and : Expr → Reader Expr
-  read_more_and a = read_fold (kinds_of and_operators) read_and_item joined a
+  -- a comparison and its right operand
+  unfoldable pub read_comparison_item : Limit → Reader (Op × Operand)
+  read_comparison_item limit = read_both (read_one_of comparisons) (read_right_of (read_within limit) limit)
 
-  unfoldable pub read_and_level : Reader Expr
-  read_and_level ts = and_then (read_not_level ts) read_more_and
+  -- comparisons behind a first operand
+  unfoldable pub read_more_comparison : Limit → Operand → Reader Operand
+  read_more_comparison limit a = read_more (kinds_of comparisons) is_closed (λ b. read_comparison_item (beside (height b.0) limit)) joined_operand a
 
-  unfoldable pub read_or_item : Reader (Op × Expr)
-  read_or_item = read_both (read_one_of or_operators) read_and_level
+  -- a row of comparisons
+  unfoldable pub read_comparison : Limit → Reader Operand
+  read_comparison limit ts = and_then (read_within limit ts) (read_more_comparison limit)
 
-  unfoldable pub read_more_or : Expr → Reader Expr
-  read_more_or a = read_fold (kinds_of or_operators) read_or_item joined a
+  -- ! not | comparison
+  unfoldable pub read_not_level : Limit → Reader Expr
+  read_not_level limit = read_either (k.Not ∷ []) (read_negation limit) (read_made (λ p. p.0) (read_comparison limit))
 
-  unfoldable pub read_or_level : Reader Expr
-  read_or_level ts = and_then (read_and_level ts) read_more_or
+  -- & not
+  unfoldable pub read_and_item : Limit → Reader (Op × Expr)
+  read_and_item limit = read_both (read_one_of and_operators) (read_not_level limit)
 
-  unfoldable pub read_iff_item : Reader (Op × Expr)
-  read_iff_item = read_both (read_one_of iff_operators) read_or_level
+  -- { & not }, behind a first operand
+  unfoldable pub read_more_and : Limit → Expr → Reader Expr
+  read_more_and limit a = read_more (kinds_of and_operators) never_ends (λ b. read_and_item (beside (height b) limit)) joined a
 
-  unfoldable pub read_more_iff : Expr → Reader Expr
-  read_more_iff a = read_fold (kinds_of iff_operators) read_iff_item joined a
+  -- a conjunction
+  unfoldable pub read_and_level : Limit → Reader Expr
+  read_and_level limit ts = and_then (read_not_level limit ts) (read_more_and limit)
 
-  unfoldable pub read_iff_level : Reader Expr
-  read_iff_level ts = and_then (read_or_level ts) read_more_iff
+  -- ( `|` | xor | xnor ) and
+  unfoldable pub read_or_item : Limit → Reader (Op × Expr)
+  read_or_item limit = read_both (read_one_of or_operators) (read_and_level limit)
 
-  unfoldable pub read_whole : Reader Expr
-  read_whole = read_made (λ p. implied p.0 p.1) (read_both read_iff_level (read_opt (k.Implies ∷ []) (read_made (λ p. p.1) (read_both (read_word k.Implies) w))))
+  -- { ( `|` | xor | xnor ) and }, behind a first operand
+  unfoldable pub read_more_or : Limit → Expr → Reader Expr
+  read_more_or limit a = read_more (kinds_of or_operators) never_ends (λ b. read_or_item (beside (height b) limit)) joined a
 
--- within the limit of nesting that the number is
+  -- a disjunction
+  unfoldable pub read_or_level : Limit → Reader Expr
+  read_or_level limit ts = and_then (read_and_level limit ts) (read_more_or limit)
+
+  -- <-> or
+  unfoldable pub read_iff_item : Limit → Reader (Op × Expr)
+  read_iff_item limit = read_both (read_one_of iff_operators) (read_or_level limit)
+
+  -- { <-> or }, behind a first operand
+  unfoldable pub read_more_iff : Limit → Expr → Reader Expr
+  read_more_iff limit a = read_more (kinds_of iff_operators) never_ends (λ b. read_iff_item (beside (height b) limit)) joined a
+
+  -- an equivalence
+  unfoldable pub read_iff_level : Limit → Reader Expr
+  read_iff_level limit ts = and_then (read_or_level limit ts) (read_more_iff limit)
+
+  -- -> expr
+  unfoldable pub read_conclusion : Limit → Reader Expr
+  read_conclusion limit = read_made (λ p. p.1) (read_both (read_word k.Implies) (w limit))
+
+  -- iff [ -> expr ]
+  unfoldable pub read_whole : Limit → Reader Expr
+  read_whole limit = read_made (λ p. implied p.0 p.1) (read_dep (read_iff_level limit) (λ a. read_opt (k.Implies ∷ []) (read_conclusion (beside (height a) limit))))
+
+-- with fewer constructs open at one place than the number
 unfoldable mutual
-  pub read_expr : ℕ → Reader Expr
-  read_expr zero ts = read_deep first_expr ts
-  read_expr (suc m) ts = read_whole (read_expr m) (read_not m) (read_signed_expr m) ts
+  -- a whole expression
+  pub read_expr : ℕ → Limit → Reader Expr
+  read_expr zero limit ts = read_too_deep (any_number limit) first_expr ts
+  read_expr (suc m) limit ts = read_whole (read_expr m) (read_not m) (read_signed_expr m) limit ts
 
-  pub read_not : ℕ → Reader Expr
-  read_not zero ts = read_deep first_expr ts
-  read_not (suc m) ts = read_not_level (read_expr m) (read_not m) (read_signed_expr m) ts
+  -- what may follow a `!`
+  pub read_not : ℕ → Limit → Reader Expr
+  read_not zero limit ts = read_too_deep (any_number limit) first_expr ts
+  read_not (suc m) limit ts = read_not_level (read_expr m) (read_not m) (read_signed_expr m) limit ts
 
-  pub read_signed_expr : ℕ → Reader Expr
-  read_signed_expr zero ts = read_deep first_signed ts
-  read_signed_expr (suc m) ts = read_signed (read_expr m) (read_not m) (read_signed_expr m) ts
+  -- what may follow a `-` that negates
+  pub read_signed_expr : ℕ → Limit → Reader Expr
+  read_signed_expr zero limit ts = read_too_deep (any_number limit) first_unary ts
+  read_signed_expr (suc m) limit ts = read_negatable (read_expr m) (read_not m) (read_signed_expr m) limit ts

@@ -1,5 +1,5 @@
 -- Languages: which value a list of tokens stands for. A grammar is written with these words.
-use Rattle.std.specs.Prelude.{◌≡◌, ℕ, Bool, true, false, ◌||◌, if◌then◌else◌, List, [], ◌∷◌, ◌++◌, map, fold, Option, Some, None, ◌⊎◌}
+use Rattle.std.specs.Prelude.{◌≡◌, ℕ, Bool, true, false, ◌||◌, if◌then◌else◌, List, [], ◌∷◌, ◌++◌, map, fold, drop, Option, Some, None, ◌⊎◌}
 use Rattle.smv_ast.specs.declared.syntax.Span.{Span}
 use Rattle.smv_parse.specs.declared.kind.Kind.{Kind}
 use Rattle.smv_parse.specs.declared.kind.Kind.TheVariants as k
@@ -35,9 +35,13 @@ find_kind (entry ∷ more) kind = if same_kind kind entry.0 then Some entry.1 el
 abbrev pub leaf : {A : Type 0} → (Token → Option A) → A → Tokens → Type 0
 leaf f a ts = (t : Token) × (ts ≡ t ∷ []) × (f t ≡ Some a)
 
+-- of one of these kinds, for what f makes of it
+abbrev pub of_kinds : {A : Type 0} → List Kind → (Token → A) → Token → Option A
+of_kinds kinds f t = if has kinds t.kind then Some (f t) else None
+
 -- of this kind, for what f makes of it
 abbrev pub of_kind : {A : Type 0} → Kind → (Token → A) → Token → Option A
-of_kind kind f t = if has (kind ∷ []) t.kind then Some (f t) else None
+of_kind kind f = of_kinds (kind ∷ []) f
 
 -- the kind of a token
 abbrev pub kind_of : Token → Kind
@@ -70,6 +74,14 @@ name = leaf (of_kind k.Name name_of)
 -- a numeral, for its value and its place
 abbrev pub numeral : Lang (ℕ × Span)
 numeral = leaf (of_kind k.Numeral number_of)
+
+-- the kinds of numerals: within the limit, and over it
+abbrev pub number_kinds : List Kind
+number_kinds = k.Numeral ∷ k.WideNumeral ∷ []
+
+-- a numeral of any size, for its number and its place
+abbrev pub digits : Lang (ℕ × Span)
+digits = leaf (of_kinds number_kinds number_of)
 
 -- a word or mark of the table, for what stands with it
 abbrev pub one_of : {A : Type 0} → List (Kind × A) → A → Tokens → Type 0
@@ -135,3 +147,7 @@ next_of (t ∷ ts) = Some t
 abbrev pub begins : List Kind → Tokens → Bool
 begins set [] = false
 begins set (t ∷ ts) = has set t.kind
+
+-- whether the token behind the first is of this kind
+abbrev pub followed_by : Kind → Tokens → Bool
+followed_by kind ts = begins (kind ∷ []) (drop 1 ts)

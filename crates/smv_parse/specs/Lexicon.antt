@@ -1,5 +1,5 @@
 -- The tokens of a text: what is cut from its bytes, and where each token stands.
-use Rattle.std.specs.Prelude.{ℕ, zero, suc, ◌+◌, ◌*◌, ◌-◌, Bool, ◌||◌, ◌&&◌, if◌then◌else◌, ◌==◌, nat_eq, nat_le, List, [], ◌∷◌, length, map, take, take_while, fold, codes, not, ◌≤◌, ◌<◌, slice_index}
+use Rattle.std.specs.Prelude.{ℕ, zero, suc, ◌+◌, ◌*◌, ◌-◌, Bool, ◌||◌, ◌&&◌, if◌then◌else◌, ◌==◌, nat_eq, nat_le, List, [], ◌∷◌, length, map, take, take_while, fold, codes, not, ◌≤◌, All}
 use Rattle.std.specs.List.{starts_with}
 use lib.Pointwise.{pointwise}
 use denote.Enum.Bare.{sameb}
@@ -89,15 +89,23 @@ word_lexeme text =
     let spelling = take_while is_name_part text in
     record { kind = find_word words spelling; len = length spelling }
 
--- a number has at most nine digits
-abbrev pub numeral_kind : ℕ → Kind
-numeral_kind digits = if nat_le digits 9 then k.Numeral else k.WideNumeral
+-- the number that digits stand for
+abbrev pub numeral_value : Bytes → ℕ
+numeral_value digits = fold (λ n b. 10 * n + (b - 48)) 0 digits
+
+-- the greatest number for which a numeral may stand
+abbrev pub greatest_number : ℕ
+greatest_number = 2147483647
+
+-- a numeral is wide where it stands for a greater number
+abbrev pub numeral_kind : Bytes → Kind
+numeral_kind digits = if nat_le (numeral_value digits) greatest_number then k.Numeral else k.WideNumeral
 
 -- a run of digits, as long as it goes
 unfoldable pub numeral_lexeme : Bytes → Lexeme
 numeral_lexeme text =
-    let digits = length (take_while is_digit text) in
-    record { kind = numeral_kind digits; len = digits }
+    let digits = take_while is_digit text in
+    record { kind = numeral_kind digits; len = length digits }
 
 -- the longest mark that stands there
 unfoldable pub mark_lexeme : Bytes → Lexeme
@@ -146,11 +154,11 @@ tokens_from file at text = tokens_in zero file at text
 abbrev pub tokens : ℕ → Bytes → List Token
 tokens file bytes = tokens_from file 0 bytes
 
--- the number that digits stand for
-abbrev pub numeral_value : Bytes → ℕ
-numeral_value digits = fold (λ n b. 10 * n + (b - 48)) 0 digits
+-- each byte is a decimal digit
+abbrev pub AreDigits : Bytes → Type 0
+AreDigits digits = All (λ b. (48 ≤ b) × (b ≤ 57)) digits
 
--- at most nine digits, as the spelling of a numeral
+-- the spelling of a numeral that is not wide
 pub record IsNumeral (digits : Bytes) : Type 0 where
-  pub short : length digits ≤ 9
-  pub digit : (i : ℕ) → i < length digits → (48 ≤ slice_index digits i) × (slice_index digits i ≤ 57)
+  pub within : numeral_value digits ≤ greatest_number
+  pub digit : AreDigits digits

@@ -6,5 +6,8 @@ pub mod Grammar
 pub mod Readers
 pub mod ExprGrammar
 pub mod ExprReaders
+pub mod Heights
+pub mod Limits
 pub mod Answer
+pub mod Nests
 pub mod ExprAnswer

@@ -6,14 +6,23 @@ use Rattle.smv_parse.specs.declared.kind.Kind.TheVariants as k
 use Rattle.smv_parse.specs.declared.error.ReadError.{ReadError}
 use Rattle.smv_parse.specs.declared.error.ReadError.TheVariants as e
 use Rattle.smv_parse.specs.Lexicon.{Bytes, Token}
-use Rattle.smv_parse.specs.Language.{Tokens, begins, of_kind, find_kind, place_of, name_of, number_of}
+use Rattle.smv_parse.specs.Language.{Tokens, next_of, followed_by, begins, of_kind, of_kinds, number_kinds, find_kind, place_of, name_of, number_of}
 
 -- why a reader stops before the end of what it reads
 pub data Cause : Type 0 where
   -- no text of the language goes on with the next token
   Misfit : Cause
+  -- the next token is a numeral over the limit
+  Wide : Cause
   -- what begins here would nest too deep
   Deep : Cause
+
+-- The two lists begin alike as far as a reader looks that stops for this cause: they have the same next token, and,
+-- where it stops for nesting, both or neither have `..` behind it.
+abbrev pub Alike : Cause → Tokens → Tokens → Type 0
+Alike Misfit y z = next_of y ≡ next_of z
+Alike Wide y z = next_of y ≡ next_of z
+Alike Deep y z = (next_of y ≡ next_of z) × (followed_by k.DotDot y ≡ followed_by k.DotDot z)
 
 -- A value and the tokens after it; or a cause, and the tokens from the one at which it comes on.
 pub data Outcome (A : Type 0) : Type 0 where
@@ -52,6 +61,10 @@ read_name = read_leaf (of_kind k.Name name_of)
 -- a numeral, with its number and its place
 abbrev pub read_numeral : Reader (ℕ × Span)
 read_numeral = read_leaf (of_kind k.Numeral number_of)
+
+-- a numeral of any size, with its number and its place
+abbrev pub read_digits : Reader (ℕ × Span)
+read_digits = read_leaf (of_kinds number_kinds number_of)
 
 -- one token of a table, with what stands beside its kind
 abbrev pub read_one_of : {A : Type 0} → List (Kind × A) → Reader A
@@ -109,6 +122,7 @@ abbrev pub read_until_to : {A : Type 0} → ℕ → List Kind → (A → Bool) �
 read_until_to zero set ends p ts = Read [] ts
 read_until_to (suc n) set ends p ts = read_either set (read_made (λ v. v.0 ∷ v.1) (read_dep p (λ a. read_unless (ends a) (read_until_to n set ends p)))) (read_nothing []) ts
 
+-- a list that goes on while one of `set` comes and no item ends it
 abbrev pub read_until : {A : Type 0} → List Kind → (A → Bool) → Reader A → Reader (List A)
 read_until set ends p ts = read_until_to (length ts) set ends p ts
 
@@ -116,14 +130,20 @@ read_until set ends p ts = read_until_to (length ts) set ends p ts
 abbrev pub read_row : {A B : Type 0} → List Kind → (B → Bool) → (A → Bool) → (B → A → B) → Reader B → Reader A → Reader B
 read_row set ended ends step p q = read_made (λ v. fold step v.0 v.1) (read_dep p (λ b. read_unless (ended b) (read_until set ends q)))
 
--- Goes on while one of `set` comes and the value does not end its row, and adds what it reads by `step`. The number
--- bounds the turns.
-abbrev pub read_more_to : {A B : Type 0} → ℕ → List Kind → (B → Bool) → Reader A → (B → A → B) → B → Reader B
+-- Goes on while one of `set` comes and the value does not end its row, and adds what it reads by `step`. What it reads
+-- may depend on the value so far. The number bounds the turns.
+abbrev pub read_more_to : {A B : Type 0} → ℕ → List Kind → (B → Bool) → (B → Reader A) → (B → A → B) → B → Reader B
 read_more_to zero set ended p step b ts = Read b ts
-read_more_to (suc n) set ended p step b ts = if ended b then Read b ts else (if begins set ts then and_then (p ts) (λ a rest. read_more_to n set ended p step (step b a) rest) else Read b ts)
+read_more_to (suc n) set ended p step b ts = if ended b then Read b ts else (if begins set ts then and_then (p b ts) (λ a rest. read_more_to n set ended p step (step b a) rest) else Read b ts)
 
-unfoldable pub read_more : {A B : Type 0} → List Kind → (B → Bool) → Reader A → (B → A → B) → B → Reader B
+-- a turn takes a token at least, so there are no more turns than tokens
+unfoldable pub read_more : {A B : Type 0} → List Kind → (B → Bool) → (B → Reader A) → (B → A → B) → B → Reader B
 read_more set ended p step b ts = read_more_to (length ts) set ended p step b ts
+
+-- Stops for this cause where one of these kinds comes, unless that is allowed.
+abbrev pub read_allowed : {A : Type 0} → Bool → Cause → List Kind → Reader A → Reader A
+read_allowed true cause set p = p
+read_allowed false cause set p = read_either set (Stop cause) p
 
 -- what begins with one of `first`, at the limit of nesting: nothing is read
 abbrev pub read_deep : {A : Type 0} → List Kind → Reader A
@@ -131,12 +151,14 @@ read_deep first ts = if begins first ts then Stop Deep ts else Stop Misfit ts
 
 -- ---- what a function that reads ensures
 
--- An Ok is what the reader reads, and the cursor stands behind it. Where a token does not fit, the cursor
--- stands at that token. Memory may run out at any time, and then nothing is said.
+-- An Ok is what the reader reads, and the cursor stands behind it. Where the reader stops for a cause, the cursor
+-- stands at the token at which it does. Memory may run out at any time, and then nothing is said.
 abbrev pub Gives : {A : Type 0} → Outcome A → Result A ReadError → Tokens → Type 0
 Gives o (Ok a) new = o ≡ Read a new
 Gives o (Err e.NoMemory) new = Unit {0}
 Gives o (Err e.Unexpected) new = o ≡ Stop Misfit new
+Gives o (Err e.WideNumber) new = o ≡ Stop Wide new
+Gives o (Err e.TooNested) new = o ≡ Stop Deep new
 
 -- what the reader reads, if one of these kinds comes; else nothing
 abbrev pub Eats : {A : Type 0} → List Kind → Reader A → Tokens → Option A → Tokens → Type 0

@@ -1,16 +1,18 @@
 //! The tokens of a text, each cut from it as it is reached.
 
-ghost use Rattle.std.specs.Prelude.{◌≡◌, ◌≢◌, ◌↔◌, ◌+◌, ◌<◌, ◌≤◌, ◌^◌, [], ◌∷◌, true, length, drop, Some, option_map, IsTrue, IsSome, All};
+ghost use Rattle.std.specs.Prelude.{◌≡◌, ◌≢◌, ◌↔◌, ◌+◌, ◌<◌, ◌≤◌, ◌^◌, [], ◌∷◌, true, false, length, drop, Some, option_map, IfOk, IsTrue, IsSome, All};
 ghost use Rattle.smv_parse.specs.declared.kind.Kind.TheVariants as k;
 ghost use Rattle.smv_parse.specs.Lexicon as spec;
 ghost use Rattle.smv_parse.specs.Lexicon.{IsNumeral};
-ghost use Rattle.smv_parse.specs.Language.{begins, kinds_of, find_kind, next_of, kind_of, place_of, text_of};
+ghost use Rattle.smv_parse.specs.Language.{begins, followed_by, kinds_of, find_kind, next_of, kind_of, place_of, text_of};
 ghost use Rattle.smv_parse.specs.Reading.{Gives, Eats, read_word, read_name, read_numeral, read_one_of};
+ghost use Rattle.smv_parse.specs.ExprReaders.{read_limited};
 
 use crate::error::ReadError;
 use crate::kind::Kind;
 use crate::lexeme::{Lexeme, first_lexeme};
-use smv_ast::{Span, Text};
+use crate::numeral::numeral_value;
+use smv_ast::{NoMemory, Span, Text};
 use std::alloc::Global;
 use std::marker::Model;
 
@@ -37,18 +39,6 @@ fn find_kind<T: Copy>(table: &[(Kind, T)], kind: Kind) -> Option<T>
         }
     }
     None
-}
-
-/// The number that at most nine digits stand for.
-fn numeral_value(digits: &[u8]) -> u32
-    requires { IsNumeral digits.now }
-    ensures { result ≡ spec.numeral_value digits.now }
-{
-    let mut value = 0;
-    for digit in digits {
-        value = 10 * value + u32::from(*digit - b'0');
-    }
-    value
 }
 
 /// The tokens that are left of a file. Contracts see the list of them.
@@ -141,6 +131,29 @@ impl<'a> Cursor<'a> {
         }
     }
 
+    /// Whether the kind of the next token stands in the table.
+    pub fn sees_one_of<T: Copy>(&self, table: &[(Kind, T)]) -> bool
+        ensures { result ≡ begins (kinds_of table.now) self.now }
+    {
+        match self.next {
+            None => false,
+            Some(next) => find_kind(table, next.kind).is_some(),
+        }
+    }
+
+    /// Whether the token behind the next one is of this kind.
+    pub fn sees_behind(&self, kind: Kind) -> bool
+        ensures { result ≡ followed_by kind self.now }
+    {
+        match self.next {
+            None => false,
+            Some(next) => {
+                let rest = behind(self.rest, next.len);
+                cursor_at(self.file, rest, self.at + next.len).sees(kind)
+            }
+        }
+    }
+
     /// The kind of the next token.
     pub fn kind(&self) -> Option<Kind>
         ensures { result ≡ option_map kind_of (next_of self.now) }
@@ -167,6 +180,7 @@ impl<'a> Cursor<'a> {
         requires { IsSome (next_of self.now) }
         ensures text { option_map text_of (next_of self.now) ≡ Some result.now }
         ensures name { begins (k.Name ∷ []) self.now ≡ true → All (λ b. b < 128) result.now }
+        ensures left_out { begins (k.LeftOut ∷ []) self.now ≡ true → All (λ b. b < 128) result.now }
         ensures numeral { begins (k.Numeral ∷ []) self.now ≡ true → IsNumeral result.now }
     {
         let rest = self.rest;
@@ -185,6 +199,14 @@ impl<'a> Cursor<'a> {
             unreachable!()
         };
         *self = cursor_at(self.file, behind(self.rest, next.len), self.at + next.len);
+    }
+
+    /// The text of the next token, which is a word or a mark that is left out.
+    pub fn left_out(&self, alloc: Global) -> Result<Text, NoMemory>
+        requires { begins (k.LeftOut ∷ []) self.now ≡ true }
+        ensures { IfOk result (λ text. option_map text_of (next_of self.now) ≡ Some text) }
+    {
+        Text::from_ascii(alloc, self.spelling())
     }
 
     /// Takes the next token, if it is of this kind, and says where it stands.
@@ -212,6 +234,17 @@ impl<'a> Cursor<'a> {
         };
         self.advance();
         Some(found)
+    }
+
+    /// Takes the next token, whose kind has to stand in the table, and says what stands with it there.
+    #[tactic(auto, using(crate::proofs::NextToken::table_stops))]
+    pub fn one_of<T: Copy>(&mut self, table: &[(Kind, T)]) -> Result<T, ReadError>
+        ensures { Gives (read_one_of table.now self.old) result self.new }
+    {
+        match self.eat_one_of(table) {
+            None => Err(ReadError::Unexpected),
+            Some(found) => Ok(found),
+        }
     }
 
     /// Takes the next token, which has to be of this kind, and says where it stands.
@@ -247,8 +280,23 @@ impl<'a> Cursor<'a> {
             return Err(ReadError::Unexpected);
         }
         let at = self.here();
-        let value = numeral_value(self.spelling());
-        self.advance();
-        Ok((value, at))
+        match numeral_value(self.spelling()) {
+            None => unreachable!(),
+            Some(value) => {
+                self.advance();
+                Ok((value, at))
+            }
+        }
+    }
+
+    /// Takes the next token, which has to be a numeral within the limit: its value, and where it stands.
+    #[tactic(auto, using(crate::proofs::NextToken::narrow_digits, crate::proofs::NextToken::wide_stops))]
+    pub fn limited(&mut self) -> Result<(u32, Span), ReadError>
+        ensures { Gives (read_limited false self.old) result self.new }
+    {
+        if self.sees(Kind::WideNumeral) {
+            return Err(ReadError::WideNumber);
+        }
+        self.numeral()
     }
 }

@@ -8,6 +8,10 @@ pub enum ReadError {
     NoMemory,
     /// No text of the grammar goes on with the token at which the cursor stands.
     Unexpected,
+    /// The cursor stands at a numeral over the limit.
+    WideNumber,
+    /// With the token at which the cursor stands an expression nests too deep.
+    TooNested,
 }
 
 impl From<NoMemory> for ReadError {

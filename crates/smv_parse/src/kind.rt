@@ -78,9 +78,9 @@ pub enum Kind {
     /// A word or a mark of SMV that is left out here.
     LeftOut,
     Name,
-    /// A number of at most nine digits.
+    /// Digits, for a number within the limit.
     Numeral,
-    /// A longer number.
+    /// Digits, for a greater number.
     WideNumeral,
     /// A byte that begins no token.
     Unknown,

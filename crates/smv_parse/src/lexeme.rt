@@ -4,6 +4,7 @@ ghost use Rattle.std.specs.Prelude.{◌≡◌, ◌<◌, ◌≤◌, length, take_
 ghost use Rattle.smv_parse.specs.Lexicon as spec;
 
 use crate::kind::Kind;
+use crate::numeral::numeral_value;
 
 /// A token, or a piece of the text between tokens: its kind, and how many bytes it takes.
 #[derive(Clone, Copy)]
@@ -151,6 +152,12 @@ fn digits_len(text: &[u8]) -> usize
     text.iter().take_while(|b| is_digit(**b)).count()
 }
 
+fn digits(text: &[u8]) -> &[u8]
+    ensures { result.now ≡ take_while spec.is_digit text.now }
+{
+    &text[..digits_len(text)]
+}
+
 fn line_len(text: &[u8]) -> usize
     ensures { result ≡ length (take_while spec.is_in_line text.now) }
 {
@@ -211,17 +218,19 @@ fn word_lexeme(text: &[u8]) -> Lexeme
     }
 }
 
-#[tactic(auto, unfolding(crate::specs::Lexicon::numeral_lexeme))]
+#[tactic(auto, using(crate::proofs::Spellings::run_of_digits), unfolding(crate::specs::Lexicon::numeral_lexeme))]
 fn numeral_lexeme(text: &[u8]) -> Lexeme
     ensures { result ≡ spec.numeral_lexeme text.now }
 {
-    let len = digits_len(text);
-    let kind = if len <= 9 {
-        Kind::Numeral
-    } else {
-        Kind::WideNumeral
+    let digits = digits(text);
+    let kind = match numeral_value(digits) {
+        Some(_) => Kind::Numeral,
+        None => Kind::WideNumeral,
     };
-    Lexeme { kind, len }
+    Lexeme {
+        kind,
+        len: digits.len(),
+    }
 }
 
 #[tactic(auto, unfolding(crate::specs::Lexicon::mark_lexeme, crate::specs::Lexicon::marks))]

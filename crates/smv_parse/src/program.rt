@@ -47,6 +47,15 @@ pub fn stand(tokens: &Cursor<'_>, file: u32, bytes: &[u8]) -> Span
     }
 }
 
+fn misfit(tokens: &Cursor<'_>, file: u32, bytes: &[u8]) -> Fault
+    requires { length bytes.now < 2 ^ 32 }
+    ensures { result ≡ Fault.Syntax (Some (stand file bytes.now tokens.now)) }
+{
+    Fault::Syntax {
+        at: Some(stand(tokens, file, bytes)),
+    }
+}
+
 fn alone(alloc: Global, main: Module) -> Result<Program, NoMemory>
     ensures { IfOk result (λ p. p ≡ record { modules = main ∷ [] }) }
 {
@@ -67,9 +76,10 @@ pub fn read_program(alloc: Global, file: u32, bytes: &[u8]) -> Result<Reading, F
     let mut tokens = Cursor::new(file, bytes);
     match whole(alloc, &mut tokens) {
         Err(ReadError::NoMemory) => Err(Fault::NoMemory),
-        Err(ReadError::Unexpected) => Err(Fault::Syntax {
-            at: Some(stand(&tokens, file, bytes)),
-        }),
+        // Nothing that is read here nests.
+        Err(ReadError::TooNested) => Err(Fault::NoMemory),
+        Err(ReadError::Unexpected) => Err(misfit(&tokens, file, bytes)),
+        Err(ReadError::WideNumber) => Err(misfit(&tokens, file, bytes)),
         Ok(found) => {
             if !found.name.is("main") {
                 return Err(Fault::Syntax { at: Some(found.at) });
