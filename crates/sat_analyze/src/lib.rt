@@ -9,3 +9,6 @@ mod places;
 mod walk;
 
 pub use learnt::{Learnt, final_clause, learn};
+
+#[cfg(test)]
+mod tests;
