@@ -1,5 +1,6 @@
 -- Marks at the places of a trail.
-use Rattle.std.specs.Prelude.{◌≡◌, ℕ, ◌<◌, ◌≤◌, Bool, true, false, List, length, slice_index, slice_index_or, All, Contains}
+use Rattle.std.specs.Prelude.{◌≡◌, ℕ, ◌<◌, ◌≤◌, Bool, true, false, List, length, map, slice_index, slice_index_or, All, Contains, ◌⊎◌}
+use Rattle.sat_arena.specs.declared.trail.Assigned.{Assigned}
 use Rattle.sat_lits.specs.Literals.{variable_of}
 
 -- the place is marked
@@ -15,6 +16,11 @@ pub record IsPlaceOf (places : List ℕ) (lits : List ℕ) (place : ℕ) : Type 
   pub literal : ℕ
   pub holds : Contains lits literal
   pub there : slice_index places (variable_of literal) ≡ place
+
+-- the literal's variable stands at a marked place, or at one of level 0
+abbrev pub IsCovered : List Assigned → List ℕ → List Bool → ℕ → Type 0
+IsCovered entries places flags literal =
+    let place = slice_index places (variable_of literal) in IsMarked flags place ⊎ (slice_index (map (λ e. e.level) entries) place ≡ 0)
 
 -- the lowest marked place from `start` on, and no place where there is none
 pub record IsLowest (flags : List Bool) (start lowest : ℕ) : Type 0 where

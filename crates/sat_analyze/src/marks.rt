@@ -1,7 +1,7 @@
 //! Marks at the places of a trail.
-ghost use Rattle.std.specs.Prelude.{◌≡◌, ℕ, ◌<◌, ◌^◌, ◌↔◌, ◌⊎◌, true, length, slice_index, slice_set};
+ghost use Rattle.std.specs.Prelude.{◌≡◌, ℕ, ◌<◌, ◌^◌, ◌↔◌, ◌⊎◌, true, All, IsTrue, length, slice_index, slice_set};
 ghost use Rattle.sat_lits.specs.Literals.{variable_of};
-ghost use Rattle.sat_analyze.specs.Marked.{IsMarked, HavePlaces, IsPlaceOf, IsLowest};
+ghost use Rattle.sat_analyze.specs.Marked.{IsMarked, HavePlaces, IsPlaceOf, IsCovered, IsLowest};
 
 use sat_arena::Assigned;
 use sat_lits::Lit;
@@ -62,6 +62,7 @@ impl Marks {
     pub fn cover(&self, entries: &[Assigned], lits: &[Lit]) -> bool
         requires sized { length self.now.flags.items ≡ length entries.now }
         requires placed { HavePlaces self.now.places.items (length entries.now) lits.now }
+        ensures { IsTrue result ↔ All (IsCovered entries.now self.now.places.items self.now.flags.items) lits.now }
     {
         for lit in lits {
             let place = self.place_of(*lit);
