@@ -11,6 +11,7 @@ use sat_lits::Lit;
 pub struct Marks {
     /// The place of each assigned variable's literal.
     pub places: Vec<u32>,
+    /// Whether the place is marked.
     pub flags: Vec<bool>,
     /// The place from which on the lowest mark is kept in sight.
     pub start: usize,
