@@ -13,6 +13,8 @@ returns c =
     let there : get_or stored c.args.at met ≡ met = get_or_default stored c.args.at met other c.requires.within in
     let clause : c.lits.result.now ≡ met.clause = c.lits.ensures ∙ met_clause stored c.args.at met c.requires.within there in
     let id : c.id.result ≡ met.id = c.id.ensures ∙ get_or-map (λ (s : Stored). s.id) stored c.args.at other c.id.result c.requires.within in
+    let pushed : c.push.new.self.items ≡ c.args.self.now.hints.items ++ c.id.result ∷ [] = c.in_ok-push.ensures.items in
+    let hints : c.push.new.self.items ≡ c.args.self.now.hints.items ++ met.id ∷ [] = pushed ∙ ap (λ n. c.args.self.now.hints.items ++ n ∷ []) id in
     record {
       met = met;
       within = c.requires.within;
@@ -22,7 +24,7 @@ returns c =
       lowest = subst (λ (n : ℕ). IsLowest c.mark.new.self.flags.items n c.mark.new.self.lowest) (sym c.mark.ensures.start) c.mark.ensures.lowest;
       places = c.mark.ensures.places;
       start = c.mark.ensures.start;
-      hints = c.in_ok-push.ensures.items ∙ ap (λ n. c.args.self.now.hints.items ++ n ∷ []) id;
+      hints = hints;
       kept = refl;
       level = refl;
     }
