@@ -1,5 +1,5 @@
 -- The learnt clause, from the walk that found it.
-use Rattle.std.proofs.Common.{◌≡◌, ◌⊎◌, ℕ, ◌<◌, ◌≤◌, false, List, [], ◌∷◌, length, get_or, arith, inl, inr, sym, ◌∙◌, ap, subst, refl}
+use Rattle.std.proofs.Common.{◌≡◌, ◌⊎◌, ℕ, ◌<◌, ◌≤◌, List, [], ◌∷◌, length, get_or, arith, inl, inr, sym, ◌∙◌, ap, subst, refl}
 use Rattle.std.specs.Prelude.{Contains}
 use Rattle.std.proofs.lemmas.Bool.{cases_eq}
 use Rattle.std.proofs.lemmas.List.Elements.{Contains-get_or}
@@ -10,6 +10,7 @@ use Rattle.sat_arena.specs.Held.{clauses_of}
 use Rattle.sat_arena.specs.Trails.{IsOrderly}
 use Rattle.sat_arena.specs.Justified.{newest, StandsAt, IsTrueAt}
 use Rattle.sat_analyze.specs.declared.walk.Walk.{Walk}
+use Rattle.sat_analyze.specs.declared.walk.Keeping.TheVariants.{Needed}
 use Rattle.sat_analyze.specs.declared.learnt.Learnt.{Learnt}
 use Rattle.sat_analyze.specs.Derived.{HasVariable}
 use Rattle.sat_analyze.specs.Marked.{IsMarked}
@@ -27,7 +28,7 @@ pub record HasLearnt (stored : List Stored) (entries : List Assigned) (vars : �
   pub marked : 0 < newest entries → met.marks.lowest < length entries
   pub points : KeepsPoint stored entries met point
   pub walk : IsWalk stored entries 0 rest
-  pub more : KeepsMore entries false point.marks.lowest point.kept.items rest
+  pub more : KeepsMore entries Needed point.marks.lowest point.kept.items rest
   pub same_start : rest.marks.start ≡ point.marks.start
   pub apart : point.marks.lowest ≤ point.marks.lowest → point.marks.lowest ≤ rest.marks.lowest
   pub left : IsLeft rest learnt
@@ -112,11 +113,11 @@ asserts_at stored entries vars met point rest learnt has entry is = record {
     kept_point = has.more.stay entry.lit (subst (λ (ks : List ℕ). Contains ks entry.lit) (sym is.kept) (0, omega arith, refl))
 
     -- a kept literal is the point's, or one of a lower place
-    kept_cases : (m : ℕ) → Contains rest.kept.items m → (m ≡ entry.lit) ⊎ IsKept entries false point.marks.lowest rest.marks.flags.items rest.level m
+    kept_cases : (m : ℕ) → Contains rest.kept.items m → (m ≡ entry.lit) ⊎ IsKept entries Needed point.marks.lowest rest.marks.flags.items rest.level m
     kept_cases m holds = elim (has.more.added m holds) [ inl old ↦ inl (only_one point.kept.items entry.lit m is.kept old) | inr new ↦ inr new ]
 
     -- none of a lower place is of the newest level
-    lower : (m : ℕ) → IsKept entries false point.marks.lowest rest.marks.flags.items rest.level m → IsTrueAt entries m (newest entries) → ⊥
+    lower : (m : ℕ) → IsKept entries Needed point.marks.lowest rest.marks.flags.items rest.level m → IsTrueAt entries m (newest entries) → ⊥
     lower m kept there =
         let level : kept.entry.level ≡ newest entries = level_of entries places kept.place kept.entry m (newest entries) table kept.stands kept.of_literal there in
         let from : met.marks.start ≤ kept.place = has.start.before kept.place kept.entry kept.stands is.above level in

@@ -11,6 +11,7 @@ use Rattle.sat_arena.specs.Held.{clauses_of}
 use Rattle.sat_arena.specs.Trails.{told}
 use Rattle.sat_arena.specs.Justified.{StandsAt, IsTrueAt, IsDecision, IsReason}
 use Rattle.sat_analyze.specs.declared.walk.Walk.{Walk}
+use Rattle.sat_analyze.specs.declared.walk.Keeping.TheVariants.{Decisions}
 use Rattle.sat_analyze.specs.declared.learnt.Learnt.{Learnt}
 use Rattle.sat_analyze.specs.Derived.{HasVariable}
 use Rattle.sat_analyze.specs.Walked.{HasPlaces, IsFresh, IsWalk, Meets, KeepsLit, IsKept, KeepsMore}
@@ -93,7 +94,7 @@ pub record HasFinal (stored : List Stored) (entries : List Assigned) (lit place 
   pub has : HasReason stored entries place entry reason
   pub kept : begun.kept.items ≡ lit ∷ []
   pub walk : IsWalk stored entries 0 rest
-  pub more : KeepsMore entries true place begun.kept.items rest
+  pub more : KeepsMore entries Decisions place begun.kept.items rest
   pub left : IsLeft rest learnt
 
 pub final_is : (stored : List Stored) (entries : List Assigned) (lit place : ℕ) (entry : Assigned) (reason : ℕ) (begun rest : Walk) (learnt : Learnt) → HasFinal stored entries lit place entry reason begun rest learnt → IsFinal stored entries lit learnt
@@ -137,7 +138,7 @@ final_is stored entries lit place entry reason begun rest learnt final = record 
   right = right_clause stored entries rest learnt final.walk final.left;
 }
   where
-    other_kept : (other : ℕ) → Contains learnt.clause other → (other ≡ negation lit → ⊥) → IsKept entries true place rest.marks.flags.items rest.level (negation other)
+    other_kept : (other : ℕ) → Contains learnt.clause other → (other ≡ negation lit → ⊥) → IsKept entries Decisions place rest.marks.flags.items rest.level (negation other)
     other_kept other holds differ = elim (final.more.added (negation other) (kept_holds rest.kept.items learnt.clause other final.left.clause holds)) [
       | inr kept ↦ kept
       | inl old ↦ absurd (differ (sym (negation-negation other) ∙ ap negation (only_one begun.kept.items lit (negation other) final.kept old)))

@@ -15,6 +15,8 @@ use Rattle.sat_arena.specs.Trails.{told}
 use Rattle.sat_arena.specs.Justified.{newest, StandsAt, IsReason, BeginsLevel, IsJustified}
 use Rattle.sat_arena.proofs.DeducedLemmas.{clause_at}
 use Rattle.sat_analyze.specs.declared.walk.Walk.{Walk}
+use Rattle.sat_analyze.specs.declared.walk.Keeping.{Keeping}
+use Rattle.sat_analyze.specs.declared.walk.Keeping.TheVariants.{Decisions}
 use Rattle.sat_analyze.specs.declared.marks.Marks.{Marks}
 use Rattle.sat_analyze.specs.Derived.{HasVariable}
 use Rattle.sat_analyze.specs.Marked.{IsMarked, IsLowest, HavePlaces}
@@ -191,8 +193,8 @@ lowest_apart flags flags' start lowest lowest' i from old new sized only marked 
       ]
 ]
 
-IsKept-more : (entries : List Assigned) (decisions : Bool) (from : ℕ) (flags flags' : List Bool) (level level' m : ℕ) → ((i : ℕ) → IsMarked flags i → IsMarked flags' i) → level ≤ level' → IsKept entries decisions from flags level m → IsKept entries decisions from flags' level' m
-IsKept-more entries decisions from flags flags' level level' m more up kept = record {
+IsKept-more : (entries : List Assigned) (keeping : Keeping) (from : ℕ) (flags flags' : List Bool) (level level' m : ℕ) → ((i : ℕ) → IsMarked flags i → IsMarked flags' i) → level ≤ level' → IsKept entries keeping from flags level m → IsKept entries keeping from flags' level' m
+IsKept-more entries keeping from flags flags' level level' m more up kept = record {
   place = kept.place;
   entry = kept.entry;
   stands = kept.stands;
@@ -204,28 +206,28 @@ IsKept-more entries decisions from flags flags' level level' m more up kept = re
   decided = kept.decided;
 }
 
-pub KeepsMore-resolved : (entries : List Assigned) (decisions : Bool) (from : ℕ) (kept : List ℕ) (before after : Walk) → after.kept ≡ before.kept → after.level ≡ before.level → ((i : ℕ) → IsMarked before.marks.flags.items i → IsMarked after.marks.flags.items i) → KeepsMore entries decisions from kept before → KeepsMore entries decisions from kept after
-KeepsMore-resolved entries decisions from kept before after same level more keeps =
+pub KeepsMore-resolved : (entries : List Assigned) (keeping : Keeping) (from : ℕ) (kept : List ℕ) (before after : Walk) → after.kept ≡ before.kept → after.level ≡ before.level → ((i : ℕ) → IsMarked before.marks.flags.items i → IsMarked after.marks.flags.items i) → KeepsMore entries keeping from kept before → KeepsMore entries keeping from kept after
+KeepsMore-resolved entries keeping from kept before after same level more keeps =
     let items : after.kept.items ≡ before.kept.items = ap (λ v. v.items) same in
     record {
       stay = λ m holds. subst (λ (ks : List ℕ). Contains ks m) (sym items) (keeps.stay m holds);
       added = λ m holds. elim (keeps.added m (subst (λ (ks : List ℕ). Contains ks m) items holds)) [
         | inl old ↦ inl old
-        | inr new ↦ inr (IsKept-more entries decisions from before.marks.flags.items after.marks.flags.items before.level after.level m more (omega arith) new)
+        | inr new ↦ inr (IsKept-more entries keeping from before.marks.flags.items after.marks.flags.items before.level after.level m more (omega arith) new)
       ];
       reached = λ some. let old = keeps.reached (omega arith) in
           (old.0, subst (λ (ks : List ℕ). Contains ks old.0) (sym items) old.1, subst (λ (n : ℕ). IsReached entries from n old.0) (sym level) old.2);
     }
 
-pub KeepsMore-kept : (entries : List Assigned) (decisions : Bool) (from : ℕ) (kept : List ℕ) (i : ℕ) (here : Assigned) (before after : Walk) → StandsAt entries i here → i < from → IsMarked before.marks.flags.items i → 0 < here.level → (decisions ≡ true → here.reason ≡ None) → Keeps here before after → KeepsMore entries decisions from kept before → KeepsMore entries decisions from kept after
-KeepsMore-kept entries decisions from kept i here before after at low marked above decided new keeps =
+pub KeepsMore-kept : (entries : List Assigned) (keeping : Keeping) (from : ℕ) (kept : List ℕ) (i : ℕ) (here : Assigned) (before after : Walk) → StandsAt entries i here → i < from → IsMarked before.marks.flags.items i → 0 < here.level → (keeping ≡ Decisions → here.reason ≡ None) → Keeps here before after → KeepsMore entries keeping from kept before → KeepsMore entries keeping from kept after
+KeepsMore-kept entries keeping from kept i here before after at low marked above decided new keeps =
     let level = new.level in
     record {
       stay = λ m holds. subst (λ (ks : List ℕ). Contains ks m) (sym new.kept) (Contains-append_left before.kept.items (here.lit ∷ []) m (keeps.stay m holds));
       added = λ m holds. elim (Contains-push_cases before.kept.items here.lit m (subst (λ (ks : List ℕ). Contains ks m) new.kept holds)) [
         | inl old ↦ elim (keeps.added m old) [
           | inl first ↦ inl first
-          | inr one ↦ inr (IsKept-more entries decisions from before.marks.flags.items after.marks.flags.items before.level after.level m (λ j is. subst (λ (ms : Marks). IsMarked ms.flags.items j) (sym new.marks) is) (omega arith) one)
+          | inr one ↦ inr (IsKept-more entries keeping from before.marks.flags.items after.marks.flags.items before.level after.level m (λ j is. subst (λ (ms : Marks). IsMarked ms.flags.items j) (sym new.marks) is) (omega arith) one)
         ]
         | inr same ↦ inr (record {
           place = i;
@@ -276,20 +278,20 @@ Resolves-skip stored entries i here walk at unmarked is = record {
   lower = λ inside. omega arith;
 }
 
-pub Steps-skip : (stored : List Stored) (entries : List Assigned) (i : ℕ) (here : Assigned) (decisions : Bool) (walk : Walk) → StandsAt entries i here → (IsMarked walk.marks.flags.items i → ⊥) → IsWalk stored entries (i + 1) walk → Steps stored entries i decisions walk walk
-Steps-skip stored entries i here decisions walk at unmarked is = record {
+pub Steps-skip : (stored : List Stored) (entries : List Assigned) (i : ℕ) (here : Assigned) (keeping : Keeping) (walk : Walk) → StandsAt entries i here → (IsMarked walk.marks.flags.items i → ⊥) → IsWalk stored entries (i + 1) walk → Steps stored entries i keeping walk walk
+Steps-skip stored entries i here keeping walk at unmarked is = record {
   walk = IsWalk-skip stored entries i here walk at unmarked is;
   more = λ from kept low keeps. keeps;
   apart = λ from low apart. apart;
   start = refl;
 }
 
-pub Steps-met : (stored : List Stored) (entries : List Assigned) (i : ℕ) (here : Assigned) (decisions : Bool) (reason : ℕ) (before after : Walk) → StandsAt entries i here → HasReason stored entries i here reason → IsMarked before.marks.flags.items i → IsWalk stored entries (i + 1) before → Meets stored reason before after → Steps stored entries i decisions before after
-Steps-met stored entries i here decisions reason before after at has marked is meets =
+pub Steps-met : (stored : List Stored) (entries : List Assigned) (i : ℕ) (here : Assigned) (keeping : Keeping) (reason : ℕ) (before after : Walk) → StandsAt entries i here → HasReason stored entries i here reason → IsMarked before.marks.flags.items i → IsWalk stored entries (i + 1) before → Meets stored reason before after → Steps stored entries i keeping before after
+Steps-met stored entries i here keeping reason before after at has marked is meets =
     let of = reason_marks stored entries i here reason before after is.marks at has meets in
     record {
       walk = IsWalk-resolve stored entries i here reason before after at has is meets;
-      more = λ from kept low keeps. KeepsMore-resolved entries decisions from kept before after meets.kept meets.level of.more keeps;
+      more = λ from kept low keeps. KeepsMore-resolved entries keeping from kept before after meets.kept meets.level of.more keeps;
       apart = λ from low apart.
           lowest_apart before.marks.flags.items after.marks.flags.items before.marks.start before.marks.lowest after.marks.lowest i from is.marks.lowest
           (subst (λ (n : ℕ). IsLowest after.marks.flags.items n after.marks.lowest) meets.start meets.lowest) meets.sized
@@ -297,15 +299,15 @@ Steps-met stored entries i here decisions reason before after at has marked is m
       start = meets.start;
     }
 
-pub Steps-kept : (stored : List Stored) (entries : List Assigned) (i : ℕ) (here : Assigned) (decisions : Bool) (before after : Walk) → IsJustified (clauses_of stored) entries → StandsAt entries i here → IsMarked before.marks.flags.items i → (decisions ≡ true → here.reason ≡ None) → (here.level ≡ 0 → here.reason ≡ None) → IsWalk stored entries (i + 1) before → Keeps here before after → Steps stored entries i decisions before after
-Steps-kept stored entries i here decisions before after justified at marked decided root is new =
+pub Steps-kept : (stored : List Stored) (entries : List Assigned) (i : ℕ) (here : Assigned) (keeping : Keeping) (before after : Walk) → IsJustified (clauses_of stored) entries → StandsAt entries i here → IsMarked before.marks.flags.items i → (keeping ≡ Decisions → here.reason ≡ None) → (here.level ≡ 0 → here.reason ≡ None) → IsWalk stored entries (i + 1) before → Keeps here before after → Steps stored entries i keeping before after
+Steps-kept stored entries i here keeping before after justified at marked decided root is new =
     let above : 0 < here.level = elim (cases_eq here.level 0) [
       | inl zero_level ↦ ((justified.decisions i here at).0 (root zero_level)).0
       | inr other ↦ omega arith
     ] in
     record {
       walk = IsWalk-keep stored entries i here before after at is new.marks new.hints new.kept;
-      more = λ from kept low keeps. KeepsMore-kept entries decisions from kept i here before after at low marked above decided new keeps;
+      more = λ from kept low keeps. KeepsMore-kept entries keeping from kept i here before after at low marked above decided new keeps;
       apart = λ from low apart. subst (λ (ms : Marks). from ≤ ms.lowest) (sym new.marks) apart;
       start = ap (λ m. m.start) new.marks;
     }

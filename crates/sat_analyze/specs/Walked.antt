@@ -10,6 +10,8 @@ use Rattle.sat_arena.specs.Held.{clauses_of}
 use Rattle.sat_arena.specs.Trails.{told}
 use Rattle.sat_arena.specs.Justified.{newest, StandsAt}
 use Rattle.sat_analyze.specs.declared.walk.Walk.{Walk}
+use Rattle.sat_analyze.specs.declared.walk.Keeping.{Keeping}
+use Rattle.sat_analyze.specs.declared.walk.Keeping.TheVariants.{Decisions}
 use Rattle.sat_analyze.specs.declared.marks.Marks.{Marks}
 use Rattle.sat_analyze.specs.Derived.{AreNamed, HasVariable}
 use Rattle.sat_analyze.specs.Marked.{IsMarked, IsLowest, IsPlaceOf}
@@ -109,8 +111,8 @@ pub record KeepsPoint (stored : List Stored) (entries : List Assigned) (before a
   pub start : after.marks.start ≡ before.marks.start
   pub point : (after.kept.items ≡ []) × (after.marks.lowest ≡ before.marks.lowest) × (before.marks.lowest ≡ length entries) ⊎ ((entry : Assigned) × StandsAt entries after.marks.lowest entry × (after.kept.items ≡ entry.lit ∷ []) × (before.marks.lowest < length entries))
 
--- a literal that was kept: that of a marked entry before a place, of a level from 1 to this one, and of a decision where only these are kept
-pub record IsKept (entries : List Assigned) (decisions : Bool) (from : ℕ) (flags : List Bool) (level m : ℕ) : Type 0 where
+-- a literal that was kept: that of a marked entry before a place, of a level from 1 to this one, and of a decision where these alone are to be kept
+pub record IsKept (entries : List Assigned) (keeping : Keeping) (from : ℕ) (flags : List Bool) (level m : ℕ) : Type 0 where
   pub place : ℕ
   pub entry : Assigned
   pub stands : StandsAt entries place entry
@@ -119,7 +121,7 @@ pub record IsKept (entries : List Assigned) (decisions : Bool) (from : ℕ) (fla
   pub of_literal : entry.lit ≡ m
   pub above : 0 < entry.level
   pub low : entry.level ≤ level
-  pub decided : decisions ≡ true → entry.reason ≡ None
+  pub decided : keeping ≡ Decisions → entry.reason ≡ None
 
 -- a literal of an entry before a place, of this level
 pub record IsReached (entries : List Assigned) (from : ℕ) (level m : ℕ) : Type 0 where
@@ -131,14 +133,14 @@ pub record IsReached (entries : List Assigned) (from : ℕ) (level m : ℕ) : Ty
   pub at_level : entry.level ≡ level
 
 -- the kept literals are those of before and ones of entries before a place, and the level is the greatest of these
-pub record KeepsMore (entries : List Assigned) (decisions : Bool) (from : ℕ) (kept : List ℕ) (walk : Walk) : Type 0 where
+pub record KeepsMore (entries : List Assigned) (keeping : Keeping) (from : ℕ) (kept : List ℕ) (walk : Walk) : Type 0 where
   pub stay : (m : ℕ) → Contains kept m → Contains walk.kept.items m
-  pub added : (m : ℕ) → Contains walk.kept.items m → Contains kept m ⊎ IsKept entries decisions from walk.marks.flags.items walk.level m
+  pub added : (m : ℕ) → Contains walk.kept.items m → Contains kept m ⊎ IsKept entries keeping from walk.marks.flags.items walk.level m
   pub reached : 0 < walk.level → (m : ℕ) × Contains walk.kept.items m × IsReached entries from walk.level m
 
 -- the marked entry at the place was resolved or kept
-pub record Steps (stored : List Stored) (entries : List Assigned) (place : ℕ) (decisions : Bool) (before after : Walk) : Type 0 where
+pub record Steps (stored : List Stored) (entries : List Assigned) (place : ℕ) (keeping : Keeping) (before after : Walk) : Type 0 where
   pub walk : IsWalk stored entries place after
-  pub more : (from : ℕ) (kept : List ℕ) → place < from → KeepsMore entries decisions from kept before → KeepsMore entries decisions from kept after
+  pub more : (from : ℕ) (kept : List ℕ) → place < from → KeepsMore entries keeping from kept before → KeepsMore entries keeping from kept after
   pub apart : (from : ℕ) → place < from → from ≤ before.marks.lowest → from ≤ after.marks.lowest
   pub start : after.marks.start ≡ before.marks.start

@@ -9,7 +9,7 @@ ghost use Rattle.sat_analyze.specs.Learnt.{IsNewlyFalse, IsLearnt, IsFinal, IsLe
 ghost use Rattle.sat_analyze.specs.Walked.{HaveOwnVariables};
 
 use crate::clause::clause_against;
-use crate::walk::Walk;
+use crate::walk::{Keeping, Walk};
 use sat_arena::{Arena, Trail};
 use sat_lits::{Clause, Lit};
 use smv_ast::{Id, List, NoMemory};
@@ -39,7 +39,7 @@ pub fn learn(alloc: Global, arena: &Arena, trail: &Trail, conflict: u32) -> Resu
     walk.meet(arena, conflict)?;
     walk.keep_unique_point(arena, entries)?;
     let from = walk.marks.lowest;
-    walk.keep_rest(arena, entries, from, false)?;
+    walk.keep_rest(arena, entries, from, Keeping::Needed)?;
     Ok(learnt_by(walk))
 }
 
@@ -62,7 +62,7 @@ pub fn final_clause(
     let reason = entries[from].reason.unwrap();
     walk.meet(arena, reason)?;
     walk.keep_lit(lit)?;
-    walk.keep_rest(arena, entries, from, true)?;
+    walk.keep_rest(arena, entries, from, Keeping::Decisions)?;
     Ok(learnt_by(walk))
 }
 

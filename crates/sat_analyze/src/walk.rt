@@ -2,6 +2,7 @@
 ghost use Rattle.std.specs.Prelude.{◌≡◌, ℕ, ◌+◌, ◌<◌, ◌≤◌, None, Some, true, [], length, slice_index_or, IfOk, IfSome, IfNone, OnOk};
 ghost use Rattle.sat_arena.specs.Held.{clauses_of};
 ghost use Rattle.sat_arena.specs.Justified.{IsJustified, StandsAt};
+ghost use Rattle.sat_analyze.specs.declared.walk.Keeping.TheVariants.{Decisions};
 ghost use Rattle.sat_analyze.specs.Marked.{IsMarked, HavePlaces, IsLowest};
 ghost use Rattle.sat_analyze.specs.Walked.{IsStart, IsFresh, IsWalk, Meets, Keeps, KeepsLit, Resolves, KeepsPoint, Steps, KeepsMore};
 
@@ -23,6 +24,15 @@ pub struct Walk {
     pub hints: Vec<Id>,
     /// The greatest level of a literal that `keep_rest` kept.
     pub level: u32,
+}
+
+/// Which literals a walk keeps; it resolves the others.
+#[derive(Clone, Copy)]
+pub enum Keeping {
+    /// Those that were decided.
+    Decisions,
+    /// Those above level 0 that were decided or whose reason brings a new literal in.
+    Needed,
 }
 
 impl Walk {
@@ -93,25 +103,24 @@ impl Walk {
         self.meet(arena, reason)
     }
 
-    /// Resolves or keeps each marked literal before the place. Those of level 0 are resolved, and so are
-    /// those whose reason brings no new literal in. With `decisions` all are that have a reason.
+    /// Resolves or keeps each marked literal before the place.
     pub fn keep_rest(
         &mut self,
         arena: &Arena,
         entries: &[Assigned],
         from: usize,
-        decisions: bool,
+        keeping: Keeping,
     ) -> Result<(), NoMemory>
         requires justified { IsJustified (clauses_of arena.now.stored) entries.now }
         requires walk { IsWalk arena.now.stored entries.now from self.old }
         requires level { self.old.level ≡ 0 }
         ensures walk { OnOk result (IsWalk arena.now.stored entries.now 0 self.new) }
-        ensures more { OnOk result (KeepsMore entries.now decisions from self.old.kept.items self.new) }
+        ensures more { OnOk result (KeepsMore entries.now keeping from self.old.kept.items self.new) }
         ensures start { OnOk result (self.new.marks.start ≡ self.old.marks.start) }
         ensures apart { OnOk result (from ≤ self.old.marks.lowest → from ≤ self.new.marks.lowest) }
     {
         for place in (0..from).rev() {
-            self.step(arena, entries, place, decisions)?;
+            self.step(arena, entries, place, keeping)?;
         }
         Ok(())
     }
@@ -122,17 +131,17 @@ impl Walk {
         arena: &Arena,
         entries: &[Assigned],
         place: usize,
-        decisions: bool,
+        keeping: Keeping,
     ) -> Result<(), NoMemory>
         requires justified { IsJustified (clauses_of arena.now.stored) entries.now }
         requires walk { IsWalk arena.now.stored entries.now (place + 1) self.old }
-        ensures { OnOk result (Steps arena.now.stored entries.now place decisions self.old self.new) }
+        ensures { OnOk result (Steps arena.now.stored entries.now place keeping self.old self.new) }
     {
         if !self.marks.flags[place] {
             return Ok(());
         }
         let entry = &entries[place];
-        match self.followed_reason(arena, entries, entry, decisions) {
+        match self.followed_reason(arena, entries, entry, keeping) {
             Some(reason) => self.meet(arena, reason),
             None => self.keep(entry),
         }
@@ -144,20 +153,20 @@ impl Walk {
         arena: &Arena,
         entries: &[Assigned],
         entry: &Assigned,
-        decisions: bool,
+        keeping: Keeping,
     ) -> Option<u32>
         requires within { IfSome entry.now.reason (λ reason. reason < length arena.now.stored) }
         requires placed { IfSome entry.now.reason (λ reason. HavePlaces self.now.marks.places.items (length entries.now) (slice_index_or (clauses_of arena.now.stored) reason [])) }
         requires sized { length self.now.marks.flags.items ≡ length entries.now }
         ensures some { IfSome result (λ reason. entry.now.reason ≡ Some reason) }
-        ensures decided { IfNone result (decisions ≡ true → entry.now.reason ≡ None) }
+        ensures decided { IfNone result (keeping ≡ Decisions → entry.now.reason ≡ None) }
         ensures root { IfNone result (entry.now.level ≡ 0 → entry.now.reason ≡ None) }
     {
         let reason = entry.reason?;
-        if decisions || entry.level == 0 || self.marks.cover(entries, arena.lits(reason)) {
-            Some(reason)
-        } else {
-            None
+        match keeping {
+            Keeping::Needed if entry.level > 0 && !self.marks.cover(entries, arena.lits(reason)) =>
+                { None }
+            _ => Some(reason),
         }
     }
 

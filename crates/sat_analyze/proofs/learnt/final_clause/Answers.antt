@@ -1,6 +1,7 @@
-use Rattle.std.proofs.Common.{◌≡◌, ℕ, true, List, length, subst, sym, ap, ◌∙◌, arith}
+use Rattle.std.proofs.Common.{◌≡◌, ℕ, List, length, subst, sym, ap, ◌∙◌, arith}
 use Rattle.std.specs.Prelude.{IsSome}
 use Rattle.sat_arena.specs.declared.trail.Assigned.{Assigned}
+use Rattle.sat_analyze.specs.declared.walk.Keeping.TheVariants.{Decisions}
 use Rattle.sat_analyze.specs.Walked.{IsWalk, KeepsMore}
 use Rattle.sat_analyze.proofs.WalkLemmas.{has_reason, reason_places}
 use Rattle.sat_analyze.proofs.FinalLemmas.{false_by, read_at, has_some_reason, begin_final, final_is}
@@ -60,6 +61,6 @@ returns c =
       kept = (begin_final stored entries c.args.lit from c.index-entries-from.result c.unwrap-reason.result c.in_ok-walk.walk c.meet.new.self c.keep_lit.new.self
           c.in_ok-walk.ensures read.stands read.of_literal has c.in_ok-meet.ensures c.in_ok-keep_lit.ensures).1;
       walk = subst (λ (es : List Assigned). IsWalk stored es 0 rest) same c.in_ok-keep_rest.ensures.walk;
-      more = subst (λ (es : List Assigned). KeepsMore es true from c.keep_lit.new.self.kept.items rest) same c.in_ok-keep_rest.ensures.more;
+      more = subst (λ (es : List Assigned). KeepsMore es Decisions from c.keep_lit.new.self.kept.items rest) same c.in_ok-keep_rest.ensures.more;
       left = c.learnt_by.ensures;
     })

@@ -1,6 +1,7 @@
-use Rattle.std.proofs.Common.{◌≡◌, ◌<◌, ℕ, false, List, length, subst, sym}
+use Rattle.std.proofs.Common.{◌≡◌, ◌<◌, ℕ, List, length, subst, sym}
 use Rattle.sat_arena.specs.declared.trail.Assigned.{Assigned}
 use Rattle.sat_arena.specs.Justified.{newest}
+use Rattle.sat_analyze.specs.declared.walk.Keeping.TheVariants.{Needed}
 use Rattle.sat_analyze.specs.Walked.{IsFresh, IsWalk, KeepsPoint, KeepsMore}
 use Rattle.sat_analyze.specs.Learnt.{IsNewlyFalse}
 use Rattle.sat_analyze.proofs.WalkLemmas.{met_clause}
@@ -35,7 +36,7 @@ returns c =
       marked = newly_marked stored entries c.args.conflict c.in_ok-walk.walk met fresh c.in_ok-meet.ensures newly;
       points = subst (λ (es : List Assigned). KeepsPoint stored es met point) same c.in_ok-keep_unique_point.ensures;
       walk = subst (λ (es : List Assigned). IsWalk stored es 0 rest) same c.in_ok-keep_rest.ensures.walk;
-      more = subst (λ (es : List Assigned). KeepsMore es false point.marks.lowest point.kept.items rest) same c.in_ok-keep_rest.ensures.more;
+      more = subst (λ (es : List Assigned). KeepsMore es Needed point.marks.lowest point.kept.items rest) same c.in_ok-keep_rest.ensures.more;
       same_start = c.in_ok-keep_rest.ensures.start;
       apart = c.in_ok-keep_rest.ensures.apart;
       left = c.learnt_by.ensures;

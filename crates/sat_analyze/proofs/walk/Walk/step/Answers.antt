@@ -15,7 +15,7 @@ returns-then-not-index c =
     let within : c.args.place < length entries = omega (arith, c.requires.walk.within) in
     let other : Assigned = record { lit = 0; level = 0; reason = None } in
     let here : Assigned = get_or entries c.args.place other in
-    Steps-skip c.args.arena.now.stored entries c.args.place here c.args.decisions c.args.self.now (within, get_or_default entries c.args.place here other within)
+    Steps-skip c.args.arena.now.stored entries c.args.place here c.args.keeping c.args.self.now (within, get_or_default entries c.args.place here other within)
     (unmarked_read c.args.self.now.marks.flags.items c.args.place c.index.result.now (omega (arith, c.requires.walk.marks.sized)) c.index.ensures c.if-not-index.true)
     c.requires.walk
 
@@ -48,7 +48,7 @@ pub returns-in-Some : goal.returns-in-Some
 returns-in-Some c =
     let at : StandsAt c.args.entries.now c.args.place c.index-entries-place.result = (omega (arith, c.requires.walk.within), sym c.index-entries-place.is) in
     on_ok_weaker c.meet.result (λ meets.
-    Steps-met c.args.arena.now.stored c.args.entries.now c.args.place c.index-entries-place.result c.args.decisions c.in-Some.reason c.args.self.now c.meet.new.self at
+    Steps-met c.args.arena.now.stored c.args.entries.now c.args.place c.index-entries-place.result c.args.keeping c.in-Some.reason c.args.self.now c.meet.new.self at
     (has_reason c.args.arena.now.stored c.args.entries.now c.args.place c.index-entries-place.result c.in-Some.reason c.requires.justified at c.in-Some.ensures.some)
     (marked_read c.args.self.now.marks.flags.items c.args.place c.index.result.now (omega (arith, c.requires.walk.marks.sized, at.0)) c.index.ensures c.if-not-index.false)
     c.requires.walk meets) c.meet.ensures
@@ -57,6 +57,6 @@ pub returns-in-None : goal.returns-in-None
 returns-in-None c =
     let at : StandsAt c.args.entries.now c.args.place c.index-entries-place.result = (omega (arith, c.requires.walk.within), sym c.index-entries-place.is) in
     on_ok_weaker c.keep.result (λ new.
-    Steps-kept c.args.arena.now.stored c.args.entries.now c.args.place c.index-entries-place.result c.args.decisions c.args.self.now c.keep.new.self c.requires.justified at
+    Steps-kept c.args.arena.now.stored c.args.entries.now c.args.place c.index-entries-place.result c.args.keeping c.args.self.now c.keep.new.self c.requires.justified at
     (marked_read c.args.self.now.marks.flags.items c.args.place c.index.result.now (omega (arith, c.requires.walk.marks.sized, at.0)) c.index.ensures c.if-not-index.false)
     c.in-None.ensures.decided c.in-None.ensures.root c.requires.walk new) c.keep.ensures
