@@ -16,9 +16,13 @@ clauses_of stored = map (λ s. s.clause) stored
 abbrev pub AreGrown : ℕ → List (List ℕ) → Type 0
 AreGrown vars clauses = All (λ clause. All (IsGrown vars) clause) clauses
 
--- a clause of two or more literals one of which is among these, so that it is satisfied for good
-abbrev pub is_satisfied : List ℕ → Stored → Bool
-is_satisfied root s = nat_lt 1 (length s.clause) && list_any (λ l. list_any (λ r. r == l) root) s.clause
+-- the literals that are among these
+abbrev pub among : List ℕ → (ℕ → Bool)
+among lits = λ l. list_any (λ r. r == l) lits
+
+-- a clause of two or more literals one of which is a root literal, so that it is satisfied for good
+abbrev pub is_satisfied : (ℕ → Bool) → Stored → Bool
+is_satisfied is_root s = nat_lt 1 (length s.clause) && list_any is_root s.clause
 
 -- what an arena keeps: room for each place in 32 bits, and grown variables
 pub record IsArena (stored : List Stored) (vars : ℕ) : Type 0 where

@@ -1,8 +1,9 @@
 //! The clauses among which propagation goes on.
-ghost use Rattle.std.specs.Prelude.{◌≡◌, ℕ, ◌+◌, ◌<◌, ◌≤◌, ◌^◌, ◌++◌, ◌∷◌, [], not, All, filter, length, max, map, slice_index_or, take, IfOk, IfNone, IfSome, IsOk, OnOk, OnErr};
-ghost use Rattle.sat_arena.specs.Trails.{told, IsGrown};
+ghost use Rattle.std.specs.Prelude.{◌≡◌, ℕ, ◌+◌, ◌<◌, ◌≤◌, ◌^◌, ◌++◌, ◌∷◌, [], not, All, filter, length, max, map, slice_index_or, take, false, IfOk, IfNone, IfSome, OnOk, OnErr};
+ghost use Rattle.sat_arena.specs.Trails.{told, marked, IsGrown};
+ghost use Rattle.sat_arena.specs.Watches.{AreTwoPlaces};
 ghost use Rattle.sat_arena.specs.Settled.{IsSettled};
-ghost use Rattle.sat_arena.specs.Held.{clauses_of, is_satisfied, AreGrown};
+ghost use Rattle.sat_arena.specs.Held.{clauses_of, among, is_satisfied, AreGrown};
 ghost use Rattle.sat_arena.specs.Deduced.{Deduces, IsConflict};
 
 use crate::propagation::propagate;
@@ -92,14 +93,16 @@ impl Arena {
     }
 
     /// Takes out the clauses of two or more literals of which one is among the root literals, and
-    /// answers how many. The others keep their order. It takes no memory, and answers Ok.
+    /// answers how many. The others keep their order. It takes the time of going once over the clauses
+    /// and the root literals. After `NoMemory` the arena is unchanged.
     pub fn reclaim(&mut self, root: &[Lit]) -> Result<u32, NoMemory>
-        ensures never_refused { IsOk result }
-        ensures ok { OnOk result (self.new ≡ record self.old { stored = filter (λ s. not (is_satisfied root.now s)) self.old.stored }) }
+        ensures ok { OnOk result (self.new ≡ record self.old { stored = filter (λ s. not (is_satisfied (among root.now) s)) self.old.stored }) }
         ensures count { IfOk result (λ count. count + length self.new.stored ≡ length self.old.stored) }
+        ensures err { OnErr result (self.new ≡ self.old) }
     {
+        let flags = flags_of(self.alloc, root)?;
         let before = self.clauses.len();
-        let kept = bring_forward(self.clauses.as_mut_slice(), root);
+        let kept = bring_forward(self.clauses.as_mut_slice(), &flags);
         self.clauses.truncate(kept);
         Ok((before - kept) as u32)
     }
@@ -118,6 +121,15 @@ impl Arena {
         ensures { result.now ≡ slice_index_or (clauses_of self.now.stored) at [] }
     {
         self.clauses[at as usize].lits()
+    }
+
+    /// The places, among the literals of the clause at the place, of the two that it watches. In a clause
+    /// of fewer than two literals they are no places. It takes no memory.
+    pub fn watches(&self, at: u32) -> (usize, usize)
+        requires { at < length self.now.stored }
+        ensures { AreTwoPlaces result.0 result.1 (length (slice_index_or (clauses_of self.now.stored) at [])) }
+    {
+        self.clauses[at as usize].watches()
     }
 
     /// The id under which proofs cite the clause at the place.
@@ -144,16 +156,48 @@ impl Arena {
 }
 
 /// Brings the clauses that stay to the front, in their order, and answers how many stay.
-fn bring_forward(clauses: &mut [Watched], root: &[Lit]) -> usize
+fn bring_forward(clauses: &mut [Watched], flags: &[bool]) -> usize
     ensures within { result ≤ length clauses.old }
-    ensures front { take result clauses.new ≡ filter (λ s. not (is_satisfied root.now s)) clauses.old }
+    ensures front { take result clauses.new ≡ filter (λ s. not (is_satisfied (marked flags.now) s)) clauses.old }
 {
     let mut kept = 0;
     for at in 0..clauses.len() {
-        if !clauses[at].is_satisfied(root) {
+        if !clauses[at].is_satisfied(flags) {
             clauses.swap(kept, at);
             kept += 1;
         }
     }
     kept
+}
+
+/// A table that flags these literals by their codes.
+fn flags_of(alloc: Global, lits: &[Lit]) -> Result<Vec<bool>, NoMemory>
+    ensures { IfOk result (λ flags. (l : ℕ) → marked flags.items l ≡ among lits.now l) }
+{
+    let mut flags = Vec::new(alloc);
+    flags.resize(codes_of(lits), false)?;
+    flag(flags.as_mut_slice(), lits);
+    Ok(flags)
+}
+
+/// A number above the code of each literal.
+fn codes_of(lits: &[Lit]) -> usize
+    ensures { All (λ l. l < result) lits.now }
+{
+    let mut codes = 0;
+    for lit in lits {
+        codes = codes.max(lit.code() as usize + 1);
+    }
+    codes
+}
+
+/// Flags these literals, in a table where none is.
+fn flag(flags: &mut [bool], lits: &[Lit])
+    requires room { All (λ l. l < length flags.old) lits.now }
+    requires none { (l : ℕ) → marked flags.old l ≡ false }
+    ensures { (l : ℕ) → marked flags.new l ≡ among lits.now l }
+{
+    for lit in lits {
+        flags[lit.code() as usize] = true;
+    }
 }

@@ -87,7 +87,9 @@ fn reclaim_takes_what_is_satisfied(rt: HostRuntime) -> Result<(), Fail> {
     assert_eq!(rt; add(alloc, &mut arena, 4, &[-2, 3], 4)?, 1);
     assert_eq!(rt; arena.len(), 2);
     if 1 < arena.len() {
+        assert_eq!(rt; arena.watches(0), (0, 1));
         arena.move_watch(0, Lit::new(1, true), Lit::new(3, true));
+        assert_eq!(rt; arena.watches(0), (2, 1));
         assert_eq!(rt; arena.lits(0), clause(alloc, &[1, 2, 3])?.lits());
         assert_eq!(rt; arena.lits(1), clause(alloc, &[-2, 3])?.lits());
         assert!(rt; arena.id(1) == Id::Axiom(4));

@@ -3,7 +3,7 @@ ghost use Rattle.std.specs.Prelude.{◌≡◌, ◌≢◌, ◌==◌, ℕ, ◌+◌
 ghost use Rattle.std.specs.List.{list_any};
 ghost use Rattle.sat_lits.specs.Literals.{negation};
 ghost use Rattle.sat_lits.specs.Clauses.{HasRisingVariables};
-ghost use Rattle.sat_arena.specs.Trails.{told, IsGrown};
+ghost use Rattle.sat_arena.specs.Trails.{told, marked, IsGrown};
 ghost use Rattle.sat_arena.specs.Settled.{IsSettled};
 ghost use Rattle.sat_arena.specs.Status.{HasStatus};
 ghost use Rattle.sat_arena.specs.Held.{is_satisfied};
@@ -98,12 +98,12 @@ impl Watched {
         }
     }
 
-    /// Whether the clause has two or more literals of which one is among these.
-    pub fn is_satisfied(&self, root: &[Lit]) -> bool
-        ensures { result ≡ is_satisfied root.now self.now }
+    /// Whether the clause has two or more literals of which one is flagged by its code.
+    pub fn is_satisfied(&self, flags: &[bool]) -> bool
+        ensures { result ≡ is_satisfied (marked flags.now) self.now }
     {
         let lits = self.clause.lits();
-        lits.len() > 1 && meet(lits, root)
+        lits.len() > 1 && has_flag(flags, lits)
     }
 
     /// What becomes of the clause. Its literals are searched only where a watched one is false, and the
@@ -138,12 +138,13 @@ impl Watched {
     }
 }
 
-/// Whether the two have a literal in common.
-fn meet(lits: &[Lit], root: &[Lit]) -> bool
-    ensures { result ≡ list_any (λ l. list_any (λ r. r == l) root.now) lits.now }
+/// Whether one of the literals is flagged by its code.
+fn has_flag(flags: &[bool], lits: &[Lit]) -> bool
+    ensures { result ≡ list_any (marked flags.now) lits.now }
 {
     for lit in lits {
-        if place_of(root, *lit) < root.len() {
+        let code = lit.code() as usize;
+        if code < flags.len() && flags[code] {
             return true;
         }
     }

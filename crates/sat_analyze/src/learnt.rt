@@ -1,0 +1,81 @@
+//! What conflict analysis derives.
+ghost use Rattle.std.specs.Prelude.{◌≡◌, ◌<◌, [], true, slice_index_or, IfOk};
+ghost use Rattle.sat_lits.specs.Literals.{negation};
+ghost use Rattle.sat_arena.specs.Trails.{told};
+ghost use Rattle.sat_arena.specs.Held.{clauses_of};
+ghost use Rattle.sat_arena.specs.Deduced.{IsConflict};
+ghost use Rattle.sat_arena.specs.Justified.{newest, IsJustified, IsDecision};
+ghost use Rattle.sat_analyze.specs.Learnt.{IsNewlyFalse, IsLearnt, IsFinal, IsLeft};
+ghost use Rattle.sat_analyze.specs.Walked.{HaveOwnVariables};
+
+use crate::clause::clause_against;
+use crate::walk::{Keeping, Walk};
+use sat_arena::{Arena, Trail};
+use sat_lits::{Clause, Lit};
+use smv_ast::{Id, List, NoMemory};
+use std::alloc::Global;
+
+/// A clause that follows from those of an arena, and how.
+#[derive(Debug, Drop)]
+pub struct Learnt {
+    pub clause: Clause,
+    /// The clauses through which unit propagation derives it, in the order in which it comes to them.
+    pub hints: List<Id>,
+    /// The greatest level of the clause's other literals: all but the one of the newest level, or but
+    /// the negation of the literal that `final_clause` was asked for. It is 0 where there are none.
+    pub level: u32,
+}
+
+/// The clause to be learnt from the falsified one at the place: it is falsified too, and has one literal
+/// of the newest level. Where that level is 0, it is the empty clause.
+pub fn learn(alloc: Global, arena: &Arena, trail: &Trail, conflict: u32) -> Result<Learnt, NoMemory>
+    requires justified { IsJustified (clauses_of arena.now.stored) trail.now.entries }
+    requires conflict { IsConflict (clauses_of arena.now.stored) trail.now.entries conflict }
+    requires newest { 0 < newest trail.now.entries → IsNewlyFalse trail.now.entries (slice_index_or (clauses_of arena.now.stored) conflict []) }
+    ensures { IfOk result (IsLearnt arena.now.stored trail.now.entries) }
+{
+    let entries = trail.entries();
+    let mut walk = Walk::new(alloc, trail)?;
+    walk.meet(arena, conflict)?;
+    walk.keep_unique_point(arena, entries)?;
+    let from = walk.marks.lowest;
+    walk.keep_rest(arena, entries, from, Keeping::Needed)?;
+    Ok(learnt_by(walk))
+}
+
+/// The clause that says why the literal is false: it holds the literal's negation and otherwise only
+/// negations of decisions.
+pub fn final_clause(
+    alloc: Global,
+    arena: &Arena,
+    trail: &Trail,
+    lit: Lit,
+) -> Result<Learnt, NoMemory>
+    requires justified { IsJustified (clauses_of arena.now.stored) trail.now.entries }
+    requires false_there { told trail.now.entries (negation lit) ≡ true }
+    requires undecided { IsDecision trail.now.entries (negation lit) → ⊥ }
+    ensures { IfOk result (IsFinal arena.now.stored trail.now.entries lit) }
+{
+    let entries = trail.entries();
+    let mut walk = Walk::new(alloc, trail)?;
+    let from = walk.marks.place_of(lit);
+    let reason = entries[from].reason.unwrap();
+    walk.meet(arena, reason)?;
+    walk.keep_lit(lit)?;
+    walk.keep_rest(arena, entries, from, Keeping::Decisions)?;
+    Ok(learnt_by(walk))
+}
+
+/// What a walk that has ended leaves.
+fn learnt_by(walk: Walk) -> Learnt
+    requires { HaveOwnVariables walk.kept.items }
+    ensures { IsLeft walk result }
+{
+    let mut hints = walk.hints;
+    hints.reverse();
+    Learnt {
+        clause: clause_against(walk.kept),
+        hints: List::from_vec(hints),
+        level: walk.level,
+    }
+}

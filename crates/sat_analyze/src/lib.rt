@@ -1,0 +1,14 @@
+//! Conflict analysis: the clause to be learnt from a falsified one, and the clause that says from
+//! which decisions a literal became false. Both come with the hints that show them.
+#![tactic(auto)]
+
+mod clause;
+mod learnt;
+mod marks;
+mod places;
+mod walk;
+
+pub use learnt::{Learnt, final_clause, learn};
+
+#[cfg(test)]
+mod tests;
