@@ -6,4 +6,5 @@ pub mod Watches
 pub mod Stored
 pub mod Held
 pub mod Deduced
+pub mod Justified
 pub mod Newness

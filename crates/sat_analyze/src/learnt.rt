@@ -1,0 +1,51 @@
+//! What conflict analysis derives.
+ghost use Rattle.std.specs.Prelude.{◌≡◌, ◌<◌, [], true, slice_index_or, IfOk};
+ghost use Rattle.sat_lits.specs.Literals.{negation};
+ghost use Rattle.sat_arena.specs.Trails.{told};
+ghost use Rattle.sat_arena.specs.Held.{clauses_of};
+ghost use Rattle.sat_arena.specs.Deduced.{IsConflict};
+ghost use Rattle.sat_arena.specs.Justified.{newest, IsJustified, IsDecision};
+ghost use Rattle.sat_analyze.specs.Learnt.{IsNewlyFalse, IsLearnt, IsFinal};
+
+use sat_arena::{Arena, Trail};
+use sat_lits::{Clause, Lit};
+use smv_ast::{Id, List, NoMemory};
+use std::alloc::Global;
+
+/// A clause that follows from those of an arena, and how.
+#[derive(Debug, Drop)]
+pub struct Learnt {
+    pub clause: Clause,
+    /// The clauses through which unit propagation derives it, in the order in which it comes to them.
+    pub hints: List<Id>,
+    /// The greatest level of the clause's other literals: all but the one of the newest level, or but
+    /// the negation of the literal that `final_clause` was asked for. It is 0 where there are none.
+    pub level: u32,
+}
+
+/// The clause to be learnt from the falsified one at the place: it is falsified too, and has one literal
+/// of the newest level. Where that level is 0, it is the empty clause.
+pub fn learn(alloc: Global, arena: &Arena, trail: &Trail, conflict: u32) -> Result<Learnt, NoMemory>
+    requires justified { IsJustified (clauses_of arena.now.stored) trail.now.entries }
+    requires conflict { IsConflict (clauses_of arena.now.stored) trail.now.entries conflict }
+    requires newest { 0 < newest trail.now.entries → IsNewlyFalse trail.now.entries (slice_index_or (clauses_of arena.now.stored) conflict []) }
+    ensures { IfOk result (IsLearnt arena.now.stored trail.now.entries) }
+{
+    Err(NoMemory)
+}
+
+/// The clause that says why the literal is false: it holds the literal's negation and otherwise only
+/// negations of decisions.
+pub fn final_clause(
+    alloc: Global,
+    arena: &Arena,
+    trail: &Trail,
+    lit: Lit,
+) -> Result<Learnt, NoMemory>
+    requires justified { IsJustified (clauses_of arena.now.stored) trail.now.entries }
+    requires false_there { told trail.now.entries (negation lit) ≡ true }
+    requires undecided { IsDecision trail.now.entries (negation lit) → ⊥ }
+    ensures { IfOk result (IsFinal arena.now.stored trail.now.entries lit) }
+{
+    Err(NoMemory)
+}

@@ -1,0 +1,7 @@
+//! Conflict analysis: the clause to be learnt from a falsified one, and the clause that says from
+//! which decisions a literal became false. Both come with the hints that show them.
+#![tactic(auto)]
+
+mod learnt;
+
+pub use learnt::{Learnt, final_clause, learn};

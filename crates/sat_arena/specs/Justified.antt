@@ -1,0 +1,43 @@
+-- Why each entry of a trail is there.
+use Rattle.std.specs.Prelude.{◌≡◌, ℕ, ◌-◌, ◌<◌, ◌↔◌, Bool, true, List, [], Some, None, length, map, take, slice_index, slice_index_or, All, Contains}
+use Rattle.sat_lits.specs.Literals.{negation}
+use Rattle.sat_arena.specs.declared.trail.Assigned.{Assigned}
+use Rattle.sat_arena.specs.Trails.{told}
+
+-- the level of the last entry, and 0 where there is none
+abbrev pub newest : List Assigned → ℕ
+newest entries = slice_index (map (λ e. e.level) entries) (length entries - 1)
+
+-- the entry stands at the place, counted from 0
+abbrev pub StandsAt : List Assigned → ℕ → Assigned → Type 0
+StandsAt entries place entry = (place < length entries) × (slice_index_or entries place entry ≡ entry)
+
+-- the literal became true at the level
+pub record IsTrueAt (entries : List Assigned) (literal level : ℕ) : Type 0 where
+  pub entry : Assigned
+  pub stands : Contains entries entry
+  pub of_literal : entry.lit ≡ literal
+  pub at_level : entry.level ≡ level
+
+-- the literal is true because it was decided
+pub record IsDecision (entries : List Assigned) (literal : ℕ) : Type 0 where
+  pub entry : Assigned
+  pub stands : Contains entries entry
+  pub of_literal : entry.lit ≡ literal
+  pub decided : entry.reason ≡ None
+
+-- the clause holds the literal, and all its other literals are false
+pub record IsReason (known : ℕ → Bool) (clause : List ℕ) (literal : ℕ) : Type 0 where
+  pub holds : Contains clause literal
+  pub others : All (λ l. (l ≡ literal → ⊥) → known (negation l) ≡ true) clause
+
+-- the entry is the first of its level, which is above 0
+abbrev pub BeginsLevel : List Assigned → Assigned → Type 0
+BeginsLevel before entry = (0 < entry.level) × All (λ e. e.level < entry.level) before
+
+-- each entry is a decision, which begins a level above 0, or has a clause for its reason
+pub record IsJustified (clauses : List (List ℕ)) (entries : List Assigned) : Type 0 where
+  -- a reason is the place of a clause that holds the literal and otherwise only literals that were false before
+  pub reasons : (i place : ℕ) (entry : Assigned) → StandsAt entries i entry → entry.reason ≡ Some place → (place < length clauses) × IsReason (told (take i entries)) (slice_index_or clauses place []) entry.lit
+  -- an entry has no reason exactly where it is the first of a level above 0
+  pub decisions : (i : ℕ) (entry : Assigned) → StandsAt entries i entry → (entry.reason ≡ None) ↔ BeginsLevel (take i entries) entry
