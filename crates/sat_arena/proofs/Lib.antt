@@ -4,3 +4,4 @@ pub mod SettledLemmas
 pub mod DeducedLemmas
 pub mod ReclaimLemmas
 pub mod NewnessLemmas
+pub mod JustifiedLemmas

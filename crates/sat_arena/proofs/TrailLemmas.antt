@@ -30,10 +30,10 @@ other_variables (e ∷ es) l p q =
     (λ same. same_variable e.lit l same (eqb-false e.lit l left.0) (eqb-false e.lit (negation l) right.0))
     (other_variables es l left.1 right.1)
 
-tail_pairs : (R : Assigned → Assigned → Type 0) (e : Assigned) (es : List Assigned) → AllPairs R (e ∷ es) → AllPairs R es
+pub tail_pairs : (R : Assigned → Assigned → Type 0) (e : Assigned) (es : List Assigned) → AllPairs R (e ∷ es) → AllPairs R es
 tail_pairs R e es pairs i j d before within = pairs (suc i) (suc j) d (omega arith) (omega arith)
 
-head_pairs : (R : Assigned → Assigned → Type 0) (e : Assigned) (es : List Assigned) → AllPairs R (e ∷ es) → All (R e) es
+pub head_pairs : (R : Assigned → Assigned → Type 0) (e : Assigned) (es : List Assigned) → AllPairs R (e ∷ es) → All (R e) es
 head_pairs R e es pairs = All-from_get_or (R e) es e (λ i within. pairs 0 (suc i) e (omega arith) (omega arith))
 
 distinct : (entries : List Assigned) → AllPairs HaveTwoVariables entries → IsDistinct (λ x y. x == y) (map (λ e. variable_of e.lit) entries)
