@@ -1,5 +1,5 @@
 -- Whether literals clash, by a search for the negation of each.
-use Rattle.std.proofs.Common.{◌≡◌, ◌==◌, ◌<◌, ◌+◌, ℕ, Bool, true, false, List, length, get_or, sym, ◌∙◌, ap, subst}
+use Rattle.std.proofs.Common.{◌≡◌, ◌==◌, ◌<◌, ℕ, true, false, List, length, get_or, sym, ◌∙◌, subst}
 use Rattle.std.specs.Prelude.{Contains}
 use Rattle.std.specs.List.{list_any, Any}
 use Rattle.std.proofs.lemmas.Bool.{eqb-true, eq-eqb, both_ways}

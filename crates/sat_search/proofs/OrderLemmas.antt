@@ -1,5 +1,5 @@
 -- The tables of an order, as their slices were lent and changed.
-use Rattle.std.proofs.Common.{◌≡◌, ◌∙◌, ℕ, Bool, List, length, take, drop, ◌++◌, ap, subst, sym, arith, ◌≤◌, ◌<◌}
+use Rattle.std.proofs.Common.{◌≡◌, ◌∙◌, ℕ, Bool, List, length, ap, subst, sym, arith, ◌≤◌}
 use Rattle.sat_search.specs.Orders.{IsOrder, AreRows}
 
 -- rows moved among the slots, and places written

@@ -2,7 +2,9 @@
 #![tactic(auto)]
 
 mod clashes;
+mod descent;
 mod heap;
 mod order;
+mod solver;
 
 pub use clashes::clash;

@@ -1,4 +1,4 @@
-use Rattle.std.proofs.Common.{◌≡◌, ◌≤◌, length}
+use Rattle.std.proofs.Common.{◌≡◌}
 use Rattle.sat_search.proofs.order.Order.grow.Given as goal
 
 abbrev pub invariant-loop-row : goal.invariant-loop-row

@@ -1,4 +1,4 @@
-use Rattle.std.proofs.Common.{◌≡◌, ◌<◌, ◌≤◌, ◌+◌, length, ap, sym, subst, ◌∙◌, arith, List, ℕ}
+use Rattle.std.proofs.Common.{◌≡◌, ◌<◌, ◌+◌, length, ap, sym, subst, ◌∙◌, arith, List, ℕ}
 use Rattle.std.proofs.lemmas.List.{with_items_is}
 use Rattle.sat_search.specs.Orders.{AreRows}
 use Rattle.sat_search.proofs.OrderLemmas.{IsOrder-moved}
