@@ -5,3 +5,4 @@ pub mod Additions
 pub mod Assumed
 pub mod Solvers
 pub mod Descents
+pub mod Endings

@@ -1,10 +1,15 @@
 //! A search for values that satisfy clauses, which keeps a log of what it derives.
 #![tactic(auto)]
 
+mod answer;
 mod clashes;
+mod conclusion;
+mod denial;
 mod descent;
 mod heap;
+mod learning;
 mod order;
 mod solver;
 
+pub use answer::Answer;
 pub use clashes::clash;
