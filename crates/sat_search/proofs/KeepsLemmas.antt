@@ -31,7 +31,7 @@ slice_get_at [] i x within is = absurd (omega arith)
 slice_get_at (y ∷ ys) zero x within is = ap Some is
 slice_get_at (y ∷ ys) (suc i) x within is = slice_get_at ys i x (omega arith) is
 
-slice_get_within : {X : Type 0} (xs : List X) (i : ℕ) (x : X) → slice_get xs i ≡ Some x → i < length xs
+pub slice_get_within : {X : Type 0} (xs : List X) (i : ℕ) (x : X) → slice_get xs i ≡ Some x → i < length xs
 slice_get_within [] i x is = absurd (let e : None ≡ Some x = is in cc)
 slice_get_within (y ∷ ys) zero x is = omega arith
 slice_get_within (y ∷ ys) (suc i) x is = (let inside : i < length ys = slice_get_within ys i x is in omega arith)
@@ -110,14 +110,14 @@ numbered_cons y lines zero x is = absurd (let e : None ≡ Some x = is in cc)
 numbered_cons y lines (suc i) x is = is
 
 -- a clause that is present has a number
-present_named : (lines : List (Option (List ℕ))) (clause : List ℕ) → Contains (present lines) clause → (n : ℕ) × (numbered lines n ≡ Some (Some clause))
+pub present_named : (lines : List (Option (List ℕ))) (clause : List ℕ) → Contains (present lines) clause → (n : ℕ) × (numbered lines n ≡ Some (Some clause))
 present_named [] clause holds = absurd (omega (arith, holds.1))
 present_named (None ∷ lines) clause holds = let rest = present_named lines clause holds in (suc rest.0, numbered_cons None lines rest.0 (Some clause) rest.1)
 present_named (Some c ∷ lines) clause (zero, within, is) = (1, ap (λ (x : List ℕ). Some (Some x)) is)
 present_named (Some c ∷ lines) clause (suc k, within, is) =
     let rest = present_named lines clause (k, omega (arith, within), is) in (suc rest.0, numbered_cons (Some c) lines rest.0 (Some clause) rest.1)
 
-axiom_named : (axioms : List (List ℕ)) (lines : List (Option (List ℕ))) (clause : List ℕ) → Contains axioms clause → (id : Id) × (named axioms lines id ≡ Some clause)
+pub axiom_named : (axioms : List (List ℕ)) (lines : List (Option (List ℕ))) (clause : List ℕ) → Contains axioms clause → (id : Id) × (named axioms lines id ≡ Some clause)
 axiom_named axioms lines clause holds = (Axiom (suc holds.0), slice_get_at axioms holds.0 clause holds.1 holds.2)
 
 -- each clause that was listed when the log had all its lines has a name

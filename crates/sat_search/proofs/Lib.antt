@@ -6,3 +6,6 @@ pub mod ReadyLemmas
 pub mod LearntLemmas
 pub mod KeepsLemmas
 pub mod EndLemmas
+pub mod RunLemmas
+pub mod ModelLemmas
+pub mod FoundLemmas

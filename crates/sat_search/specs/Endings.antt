@@ -10,7 +10,9 @@ use Rattle.sat_arena.specs.Trails.{told, IsGrown}
 use Rattle.sat_arena.specs.Held.{clauses_of}
 use Rattle.sat_arena.specs.Newness.{IsNew}
 use Rattle.sat_analyze.specs.Derived.{HasVariable}
-use Rattle.sat_search.specs.Assumed.{IsDenied, NoneIsDenied}
+use Rattle.sat_search.specs.Orders.{AllAssigned}
+use Rattle.sat_search.specs.Assumed.{AllTrue, IsDenied, NoneIsDenied}
+use Rattle.sat_search.specs.Descents.{AreSettled}
 use Rattle.sat_search.specs.Additions.{Extends, AreNewFrom, HasVariables, HasNoPart, listed_at}
 use Rattle.sat_search.specs.declared.solver.Solver.{Solver}
 use Rattle.sat_search.specs.declared.answer.Answer.{Answer}
@@ -58,6 +60,18 @@ pub record GoesOn (old new : Logged) (most : ℕ) : Type 0 where
   pub news : AreNewFrom (length old.lines) new
   pub within : length old.lines < length new.lines → length new.lines ≤ most
   pub variables : HasVariables old → HasVariables new
+
+-- a search found a model without any more lines, or ended without one
+abbrev pub Finishes : (ℕ → Bool) → List ℕ → Logged → Solver → ℕ → Answer → Type 0
+Finishes denied assumptions old new most Model = (new.log ≡ old) × AreSettled new × AllTrue assumptions new.trail.entries × AllAssigned new.trail.vars (told new.trail.entries)
+Finishes denied assumptions old new most (Core id) = EndsBy denied old new.log most (Core id)
+Finishes denied assumptions old new most Spent = EndsBy denied old new.log most Spent
+
+-- a search went on from a log, and then finished with the answer
+pub record RunsTo (denied : ℕ → Bool) (assumptions : List ℕ) (old : Logged) (new : Solver) (most : ℕ) (answer : Answer) : Type 0 where
+  pub mid : Logged
+  pub goes_on : GoesOn old mid most
+  pub finishes : Finishes denied assumptions mid new most answer
 
 -- the clause follows by the hints and holds only negated assumptions, and no stored clause holds only such
 pub record Refutes (assumed : ℕ → Bool) (solver : Solver) (clause : List ℕ) (hints : List Id) : Type 0 where

@@ -6,3 +6,5 @@ pub mod Assumed
 pub mod Solvers
 pub mod Descents
 pub mod Endings
+pub mod Sessions
+pub mod Founds

@@ -6,9 +6,12 @@ mod clashes;
 mod conclusion;
 mod denial;
 mod descent;
+mod found;
 mod heap;
 mod learning;
 mod order;
+mod restarts;
+mod run;
 mod solver;
 
 pub use answer::Answer;
