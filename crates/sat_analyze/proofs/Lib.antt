@@ -1,0 +1,9 @@
+pub mod ClauseLemmas
+pub mod PlaceLemmas
+pub mod MarkLemmas
+pub mod BeforeLemmas
+pub mod RefuteLemmas
+pub mod WalkLemmas
+pub mod LearntLemmas
+pub mod AssertLemmas
+pub mod FinalLemmas

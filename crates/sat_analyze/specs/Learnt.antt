@@ -1,5 +1,6 @@
 -- What a clause learnt from a conflict is, and the clause of a false literal.
-use Rattle.std.specs.Prelude.{◌≡◌, ℕ, ◌<◌, List, [], All, Contains}
+use Rattle.std.specs.Prelude.{◌≡◌, ℕ, ◌<◌, List, [], map, reverse, All, Contains}
+use Rattle.std.specs.List.Sorted.{IsPermutation}
 use Rattle.sat_lits.specs.Literals.{negation, variable_of}
 use Rattle.sat_lits.specs.Steps.{IsFalsified}
 use Rattle.sat_arena.specs.declared.trail.Assigned.{Assigned}
@@ -8,6 +9,7 @@ use Rattle.sat_arena.specs.Held.{clauses_of}
 use Rattle.sat_arena.specs.Trails.{told}
 use Rattle.sat_arena.specs.Justified.{newest, IsTrueAt, IsDecision}
 use Rattle.sat_analyze.specs.declared.learnt.Learnt.{Learnt}
+use Rattle.sat_analyze.specs.declared.walk.Walk.{Walk}
 use Rattle.sat_analyze.specs.Derived.{HasVariable, IsBackLevel, IsRightOver}
 
 -- a literal of the clause became false at the newest level
@@ -43,3 +45,9 @@ pub record IsFinal (stored : List Stored) (entries : List Assigned) (lit : ℕ) 
   pub back : IsBackLevel entries learnt.clause (negation lit) learnt.level
   pub variables : All (λ l. HasVariable (clauses_of stored) (variable_of l)) learnt.clause
   pub right : IsRightOver stored learnt.clause learnt.hints
+
+-- what is left of a walk: the clause against its kept literals, and its hints in the order of propagation
+pub record IsLeft (walk : Walk) (learnt : Learnt) : Type 0 where
+  pub clause : IsPermutation (map negation walk.kept.items) learnt.clause
+  pub hints : learnt.hints ≡ reverse walk.hints.items
+  pub level : learnt.level ≡ walk.level

@@ -1,2 +1,4 @@
 pub mod Derived
 pub mod Learnt
+pub mod Marked
+pub mod Walked

@@ -5,8 +5,11 @@ ghost use Rattle.sat_arena.specs.Trails.{told};
 ghost use Rattle.sat_arena.specs.Held.{clauses_of};
 ghost use Rattle.sat_arena.specs.Deduced.{IsConflict};
 ghost use Rattle.sat_arena.specs.Justified.{newest, IsJustified, IsDecision};
-ghost use Rattle.sat_analyze.specs.Learnt.{IsNewlyFalse, IsLearnt, IsFinal};
+ghost use Rattle.sat_analyze.specs.Learnt.{IsNewlyFalse, IsLearnt, IsFinal, IsLeft};
+ghost use Rattle.sat_analyze.specs.Walked.{HaveOwnVariables};
 
+use crate::clause::clause_against;
+use crate::walk::Walk;
 use sat_arena::{Arena, Trail};
 use sat_lits::{Clause, Lit};
 use smv_ast::{Id, List, NoMemory};
@@ -31,7 +34,13 @@ pub fn learn(alloc: Global, arena: &Arena, trail: &Trail, conflict: u32) -> Resu
     requires newest { 0 < newest trail.now.entries → IsNewlyFalse trail.now.entries (slice_index_or (clauses_of arena.now.stored) conflict []) }
     ensures { IfOk result (IsLearnt arena.now.stored trail.now.entries) }
 {
-    Err(NoMemory)
+    let entries = trail.entries();
+    let mut walk = Walk::new(alloc, trail)?;
+    walk.meet(arena, conflict)?;
+    walk.keep_unique_point(arena, entries)?;
+    let from = walk.marks.lowest;
+    walk.keep_rest(arena, entries, from, false)?;
+    Ok(learnt_by(walk))
 }
 
 /// The clause that says why the literal is false: it holds the literal's negation and otherwise only
@@ -47,5 +56,26 @@ pub fn final_clause(
     requires undecided { IsDecision trail.now.entries (negation lit) → ⊥ }
     ensures { IfOk result (IsFinal arena.now.stored trail.now.entries lit) }
 {
-    Err(NoMemory)
+    let entries = trail.entries();
+    let mut walk = Walk::new(alloc, trail)?;
+    let from = walk.marks.place_of(lit);
+    let reason = entries[from].reason.unwrap();
+    walk.meet(arena, reason)?;
+    walk.keep_lit(lit)?;
+    walk.keep_rest(arena, entries, from, true)?;
+    Ok(learnt_by(walk))
+}
+
+/// What a walk that has ended leaves.
+fn learnt_by(walk: Walk) -> Learnt
+    requires { HaveOwnVariables walk.kept.items }
+    ensures { IsLeft walk result }
+{
+    let mut hints = walk.hints;
+    hints.reverse();
+    Learnt {
+        clause: clause_against(walk.kept),
+        hints: List::from_vec(hints),
+        level: walk.level,
+    }
 }

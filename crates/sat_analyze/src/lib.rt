@@ -2,6 +2,10 @@
 //! which decisions a literal became false. Both come with the hints that show them.
 #![tactic(auto)]
 
+mod clause;
 mod learnt;
+mod marks;
+mod places;
+mod walk;
 
 pub use learnt::{Learnt, final_clause, learn};

@@ -107,6 +107,13 @@ impl Trail {
         &self.entries
     }
 
+    /// The greatest variable that may be assigned.
+    pub fn vars(&self) -> u32
+        ensures { result ≡ self.now.vars }
+    {
+        self.vars
+    }
+
     /// Whether the literal is true, in constant time. It is false where its negation is true.
     pub fn is_true(&self, lit: Lit) -> bool
         requires grown { variable_of lit ≤ self.now.vars }

@@ -1,0 +1,13 @@
+use Rattle.std.proofs.Common.{◌≡◌, length}
+use Rattle.sat_analyze.specs.Marked.{IsLowest}
+use Rattle.sat_analyze.proofs.MarkLemmas.{MarksFirst}
+use Rattle.sat_analyze.proofs.marks.Marks.mark.Given as goal
+
+abbrev pub invariant-loop-lit : goal.invariant-loop-lit
+invariant-loop-lit l = record {
+  sized : length l.self.flags.items ≡ length l.fn.self.flags.items;
+  places : l.self.places ≡ l.fn.self.places;
+  start : l.self.start ≡ l.fn.self.start;
+  lowest : IsLowest l.self.flags.items l.self.start l.self.lowest;
+  first : MarksFirst l.fn.self.places.items l.lits l.lit-index l.fn.self.flags.items l.self.flags.items;
+}
