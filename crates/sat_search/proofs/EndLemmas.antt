@@ -1,14 +1,13 @@
 -- A search that ends by one more line, and one that learns.
-use Rattle.std.proofs.Common.{◌≡◌, ◌<◌, ◌≤◌, ◌+◌, ℕ, List, [], ◌∷◌, ◌++◌, Some, None, Bool, true, false, arith, subst, sym, ap, ◌∙◌, refl, inl, inr, ◌⊎◌, get_or, length, slice_get}
-use Rattle.std.specs.Prelude.{All, Contains, map}
+use Rattle.std.proofs.Common.{◌≡◌, ◌<◌, ◌≤◌, ℕ, List, [], ◌∷◌, ◌++◌, Some, Bool, true, arith, subst, sym, ap, ◌∙◌, inl, inr, get_or, length}
+use Rattle.std.specs.Prelude.{All, Contains}
 use Rattle.std.proofs.lemmas.Bool.{both_ways, cases_eq}
 use Rattle.std.proofs.lemmas.List.{map-append}
 use Rattle.std.proofs.lemmas.List.Elements.{All-nil, All-cons, All-contains, All-push, Contains-push, Contains-get_or}
 use Rattle.smv_ast.specs.declared.proof.Id.{Id}
-use Rattle.smv_ast.specs.declared.proof.Id.TheVariants.{Axiom, Derived}
+use Rattle.smv_ast.specs.declared.proof.Id.TheVariants.{Derived}
 use Rattle.sat_lits.specs.Literals.{negation, variable_of}
 use Rattle.sat_lits.specs.Steps.{IsFalsified, IsRight, HoldsUnit, Stands, named}
-use Rattle.proof_log.specs.declared.log.Line.{Line}
 use Rattle.proof_log.specs.Logged.{Logged, standing}
 use Rattle.proof_log.specs.IsSound.{IsSound}
 use Rattle.sat_arena.specs.declared.trail.Assigned.{Assigned}
@@ -20,10 +19,10 @@ use Rattle.sat_arena.specs.Justified.{newest, IsDecision}
 use Rattle.sat_analyze.specs.declared.learnt.Learnt.{Learnt}
 use Rattle.sat_analyze.specs.Derived.{HasVariable}
 use Rattle.sat_analyze.specs.Learnt.{IsFinal, IsLearnt}
-use Rattle.sat_search.specs.Assumed.{IsDenied, NoneIsDenied}
+use Rattle.sat_search.specs.Assumed.{NoneIsDenied}
 use Rattle.sat_search.specs.Additions.{HasNoPart, listed_at, HasVariables}
-use Rattle.sat_search.specs.Solvers.{IsReady, IsSolver, KeepsLog}
-use Rattle.sat_search.specs.Endings.{Records, Refutes, IsRefused, EndsBy, AddsOwnLine, AddsNewLine, IsEnd}
+use Rattle.sat_search.specs.Solvers.{IsReady, IsSolver}
+use Rattle.sat_search.specs.Endings.{Records, Refutes, IsRefused, EndsBy, AddsNewLine}
 use Rattle.sat_search.specs.declared.solver.Solver.{Solver}
 use Rattle.sat_search.specs.declared.answer.Answer.TheVariants.{Core}
 use Rattle.sat_search.proofs.KeepsLemmas.{with_line, derived_named, listed_has_name, listed_is_stored, KeepsLog-record, HasVariables-record}

@@ -1,12 +1,12 @@
 -- What a whole search finds, and what it adds to the log.
-use Rattle.std.proofs.Common.{◌≡◌, ◌<◌, ◌≤◌, ◌+◌, ℕ, List, [], ◌∷◌, ◌++◌, Option, Some, None, Bool, true, false, arith, subst, sym, ap, ◌∙◌, refl, inl, inr, get_or, length, slice_get}
+use Rattle.std.proofs.Common.{◌≡◌, ◌<◌, ◌≤◌, ◌+◌, ℕ, List, Option, Some, None, Bool, true, arith, subst, sym, ap, ◌∙◌, inl, inr, get_or, length}
 use Rattle.std.specs.Prelude.{All, Contains}
 use Rattle.std.proofs.lemmas.List.{length_push}
 use Rattle.std.proofs.lemmas.List.Elements.{All-contains, All-weaker, Contains-get_or}
 use Rattle.smv_ast.specs.declared.proof.Id.{Id}
-use Rattle.smv_ast.specs.declared.proof.Id.TheVariants.{Axiom, Derived}
-use Rattle.sat_lits.specs.Literals.{negation, literal, literal_true}
-use Rattle.sat_lits.specs.Clauses.{clause_true, Satisfies}
+use Rattle.smv_ast.specs.declared.proof.Id.TheVariants.{Derived}
+use Rattle.sat_lits.specs.Literals.{negation, literal}
+use Rattle.sat_lits.specs.Clauses.{clause_true}
 use Rattle.sat_lits.specs.Steps.{IsFalsified}
 use Rattle.sat_lits.proofs.Numbered.{slice_get-push}
 use Rattle.proof_log.specs.declared.log.Line.{Line}
@@ -17,7 +17,7 @@ use Rattle.sat_arena.specs.Trails.{told, marked, IsGrown}
 use Rattle.sat_arena.specs.Newness.{IsNew}
 use Rattle.sat_arena.proofs.TrailLemmas.{consistent}
 use Rattle.sat_search.specs.Orders.{AllAssigned}
-use Rattle.sat_search.specs.Assumed.{assumed, AllTrue, IsDenied, NoneIsDenied}
+use Rattle.sat_search.specs.Assumed.{assumed, AllTrue}
 use Rattle.sat_search.specs.Additions.{present, listed_at, HasNoPart, HasVariables}
 use Rattle.sat_search.specs.Solvers.{IsSolver}
 use Rattle.sat_search.specs.Descents.{AreSettled}

@@ -1,6 +1,6 @@
 -- A log and the clauses that are stored, as a line is added to both.
 use Rattle.std.proofs.Common.{◌≡◌, ◌<◌, ◌≤◌, ◌+◌, ℕ, List, [], ◌∷◌, ◌++◌, Option, Some, None, arith, subst, sym, ap, ◌∙◌, refl, inl, inr, ◌⊎◌, get_or, length, suc, zero, slice_get, append-nil, append_assoc}
-use Rattle.std.specs.Prelude.{All, Contains, map, option_and_then, max}
+use Rattle.std.specs.Prelude.{All, Contains, map, option_and_then}
 use Rattle.std.proofs.lemmas.List.{map-append, length-map}
 use Rattle.std.proofs.lemmas.List.Elements.{All-head, All-tail, All-contains, All-push, All-weaker, Contains-append_left, Contains-push, Contains-append_cases}
 use Rattle.smv_ast.specs.declared.proof.Id.{Id}

@@ -9,3 +9,4 @@ pub mod EndLemmas
 pub mod RunLemmas
 pub mod ModelLemmas
 pub mod FoundLemmas
+pub mod GrowthLemmas

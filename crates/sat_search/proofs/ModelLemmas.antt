@@ -1,11 +1,10 @@
 -- Where propagation has ended and all variables are assigned, all clauses are true.
-use Rattle.std.proofs.Common.{◌≡◌, ◌+◌, ◌*◌, ◌≤◌, ◌<◌, ◌%◌, ◌/◌, ◌==◌, ℕ, Bool, true, false, not, List, length, get_or, inl, inr, sym, ap, subst, ◌∙◌, arith}
+use Rattle.std.proofs.Common.{◌≡◌, ◌+◌, ◌*◌, ◌≤◌, ◌%◌, ◌/◌, ℕ, Bool, true, false, not, List, inl, inr, sym, ap, subst, ◌∙◌, arith}
 use Rattle.std.specs.Prelude.{All, Contains}
-use Rattle.std.specs.List.{list_any}
 use Rattle.std.proofs.lemmas.Bool.{cases_eq, both_ways, cases_Bool, cond-true, cond-false, eq-eqb, ne_eqb, not_from_false}
 use Rattle.std.proofs.lemmas.List.Folds.{list_any_at}
 use Rattle.std.proofs.lemmas.List.Elements.{All-contains}
-use Rattle.sat_lits.specs.Literals.{negation, literal, literal_true, variable_of, is_positive_literal}
+use Rattle.sat_lits.specs.Literals.{negation, literal, literal_true, is_positive_literal}
 use Rattle.sat_lits.specs.Clauses.{clause_true}
 use Rattle.sat_arena.specs.Settled.{IsSettled, IsConsistent}
 use Rattle.sat_arena.specs.Trails.{IsGrown}

@@ -1,19 +1,17 @@
 -- The turns of a search.
-use Rattle.std.proofs.Common.{◌≡◌, ◌<◌, ◌≤◌, ◌+◌, ℕ, List, [], ◌∷◌, ◌++◌, Some, None, Bool, true, false, arith, subst, sym, ap, ◌∙◌, refl, inl, inr, length, slice_get, take}
-use Rattle.std.specs.Prelude.{All, Contains}
+use Rattle.std.proofs.Common.{◌≡◌, ◌<◌, ◌+◌, ℕ, List, Bool, true, arith, subst, sym, ◌∙◌, inl, inr, length, take}
+use Rattle.std.specs.Prelude.{Contains}
 use Rattle.std.proofs.lemmas.Bool.{cases_Bool}
 use Rattle.std.proofs.lemmas.List.{length_push}
 use Rattle.std.proofs.lemmas.List.Elements.{All-contains}
-use Rattle.smv_ast.specs.declared.proof.Id.{Id}
 use Rattle.sat_lits.specs.Literals.{negation}
-use Rattle.proof_log.specs.declared.log.Line.{Line}
 use Rattle.proof_log.specs.Logged.{Logged}
 use Rattle.sat_arena.specs.declared.trail.Assigned.{Assigned}
 use Rattle.sat_arena.specs.Trails.{told, IsOrderly, marked}
 use Rattle.sat_arena.proofs.TrailLemmas.{consistent}
 use Rattle.sat_search.specs.Clashes.{HasClash}
 use Rattle.sat_search.specs.Assumed.{assumed, AssumesFirst}
-use Rattle.sat_search.specs.Additions.{AreNewFrom, HasVariables}
+use Rattle.sat_search.specs.Additions.{HasVariables}
 use Rattle.sat_search.specs.Endings.{IsRefused, GoesOn, AddsNewLine}
 use Rattle.sat_search.proofs.ClashLemmas.{Contains-from_search, search_finds}
 use Rattle.sat_search.proofs.ToldLemmas.{told_from_take}

@@ -8,3 +8,5 @@ pub mod Descents
 pub mod Endings
 pub mod Sessions
 pub mod Founds
+pub mod Axioms
+pub mod SessionState

@@ -1,5 +1,5 @@
 -- A session, as its callers see it.
-use Rattle.std.specs.Prelude.{◌≡◌, ℕ, ◌+◌, ◌≤◌, ◌<◌, ◌^◌, Bool, true, false, List, ◌++◌, Option, Some, None, Result, Ok, Err, length, slice_get, All, ◌⊎◌, max}
+use Rattle.std.specs.Prelude.{◌≡◌, ℕ, ◌+◌, ◌≤◌, ◌<◌, Bool, true, List, Option, Some, None, Result, Ok, Err, length, slice_get, All, ◌⊎◌}
 use Rattle.smv_ast.specs.declared.proof.Id.{Id}
 use Rattle.smv_ast.specs.declared.proof.Id.TheVariants.{Derived}
 use Rattle.sat_lits.specs.Literals.{literal_true}

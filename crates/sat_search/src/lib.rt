@@ -7,12 +7,15 @@ mod conclusion;
 mod denial;
 mod descent;
 mod found;
+mod growth;
 mod heap;
 mod learning;
 mod order;
 mod restarts;
 mod run;
+mod session;
 mod solver;
 
 pub use answer::Answer;
 pub use clashes::clash;
+pub use session::Session;

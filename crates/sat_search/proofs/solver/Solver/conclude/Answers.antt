@@ -1,7 +1,6 @@
-use Rattle.std.proofs.Common.{◌≡◌, ◌<◌, ◌∙◌, ap, sym, subst, List, length, ℕ, Bool}
+use Rattle.std.proofs.Common.{◌≡◌, ◌<◌, ap, sym, subst, List, length, ℕ, Bool}
 use Rattle.smv_ast.specs.declared.proof.Id.{Id}
-use Rattle.sat_lits.specs.Steps.{HoldsUnit, Stands}
-use Rattle.proof_log.specs.Logged.{Logged, standing}
+use Rattle.proof_log.specs.Logged.{Logged}
 use Rattle.sat_arena.specs.Settled.{HasTwo}
 use Rattle.sat_arena.specs.Trails.{told, up_to, marked}
 use Rattle.sat_arena.specs.Justified.{newest}

@@ -1,11 +1,10 @@
-use Rattle.std.proofs.Common.{◌≡◌, ℕ, Bool, List, Option, None, Result, Ok, Err, ap, sym, subst, ◌∙◌}
+use Rattle.std.proofs.Common.{◌≡◌, ℕ, List, None, Result, Ok, Err, ap, sym, subst, ◌∙◌}
 use Rattle.std.specs.Prelude.{IfOk}
 use Rattle.std.specs.Option.{option_map}
 use Rattle.std.proofs.lemmas.Result.{MatchResult-from_err, on_err_weaker}
 use Rattle.proof_log.specs.Logged.{Logged}
 use Rattle.sat_arena.specs.Trails.{marked}
 use Rattle.sat_search.specs.Assumed.{assumed}
-use Rattle.sat_search.specs.Additions.{HasVariables}
 use Rattle.sat_search.specs.Sessions.{Answers, AddsLines}
 use Rattle.sat_search.specs.Founds.{HasValues, IsFound, named_by}
 use Rattle.sat_search.specs.declared.answer.Answer.{Answer}

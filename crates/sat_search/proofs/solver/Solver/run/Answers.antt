@@ -1,4 +1,4 @@
-use Rattle.std.proofs.Common.{◌≡◌, ◌∙◌, ap, sym, subst}
+use Rattle.std.proofs.Common.{◌∙◌, ap, sym, subst}
 use Rattle.proof_log.specs.Logged.{Logged}
 use Rattle.sat_arena.specs.Held.{clauses_of}
 use Rattle.sat_search.specs.declared.solver.Solver.{Solver}
