@@ -19,3 +19,6 @@ mod solver;
 pub use answer::Answer;
 pub use clashes::clash;
 pub use session::Session;
+
+#[cfg(test)]
+mod tests;
