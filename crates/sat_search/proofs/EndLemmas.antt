@@ -19,7 +19,7 @@ use Rattle.sat_arena.specs.Justified.{newest, IsDecision}
 use Rattle.sat_analyze.specs.declared.learnt.Learnt.{Learnt}
 use Rattle.sat_analyze.specs.Derived.{HasVariable}
 use Rattle.sat_analyze.specs.Learnt.{IsFinal, IsLearnt}
-use Rattle.sat_search.specs.Assumed.{NoneIsDenied}
+use Rattle.sat_search.specs.Assumed.{AreNotDenied, NoneIsDenied}
 use Rattle.sat_search.specs.Additions.{HasNoPart, listed_at, HasVariables}
 use Rattle.sat_search.specs.Solvers.{IsReady, IsSolver}
 use Rattle.sat_search.specs.Endings.{Records, Refutes, IsRefused, EndsBy, AddsNewLine}
@@ -40,6 +40,11 @@ denied_has_no_unit denied log clause alone false_there unit =
 pub denied_is_fresh : (denied : ℕ → Bool) (log : Logged) (clause : List ℕ) → NoneIsDenied denied log → IsFalsified denied clause → Stands (standing log.lines) clause → ⊥
 denied_is_fresh denied log clause alone false_there stands =
     alone (Derived stands.0) clause (derived_named log.axioms (standing log.lines) stands.0 clause stands.1) false_there
+
+nothing_listed_is_denied : (denied : ℕ → Bool) (log : Logged) → IsSound log → NoneIsDenied denied log → AreNotDenied denied (listed_at (length log.lines) log)
+nothing_listed_is_denied denied log sound alone clause listed false_there =
+    let at = listed_has_name log (λ i count line is retired. (sound.retired i count line is retired).1) clause listed in
+    alone at.0 clause at.1 false_there
 
 denied_has_no_part : (denied : ℕ → Bool) (log : Logged) (clause : List ℕ) → IsSound log → NoneIsDenied denied log → IsFalsified denied clause → HasNoPart (listed_at (length log.lines) log) clause
 denied_has_no_part denied log clause sound alone false_there part listed inside =
@@ -79,6 +84,7 @@ EndsBy-record denied old new clause hints id most solver solver' records sound r
         hints = hints;
         is = records.log_is;
         named = ap Core records.id_is;
+        alone = nothing_listed_is_denied denied old.log sound refutes.alone;
         has_no_part = denied_has_no_part denied old.log clause sound refutes.alone refutes.denied;
         room = room;
         variables = λ before. subst HasVariables (sym records.log_is) (HasVariables-record old.log old.arena.stored clause hints solver.keeps refutes.variables before);

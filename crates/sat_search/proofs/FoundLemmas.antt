@@ -17,7 +17,7 @@ use Rattle.sat_arena.specs.Trails.{told, marked, IsGrown}
 use Rattle.sat_arena.specs.Newness.{IsNew}
 use Rattle.sat_arena.proofs.TrailLemmas.{consistent}
 use Rattle.sat_search.specs.Orders.{AllAssigned}
-use Rattle.sat_search.specs.Assumed.{assumed, AllTrue}
+use Rattle.sat_search.specs.Assumed.{AreNotDenied, assumed, AllTrue}
 use Rattle.sat_search.specs.Additions.{present, listed_at, HasNoPart, HasVariables}
 use Rattle.sat_search.specs.Solvers.{IsSolver}
 use Rattle.sat_search.specs.Descents.{AreSettled}
@@ -33,19 +33,19 @@ use Rattle.sat_search.proofs.LearntLemmas.{grown_if_true}
 
 -- ---- Lines
 
-pub AddsLines-goes_on : (old new : Logged) (most : ℕ) (core : Option Id) → GoesOn old new most → AddsLines old new most core
-AddsLines-goes_on old new most core goes_on = record {
+pub AddsLines-goes_on : (assumptions : List ℕ) (old new : Logged) (most : ℕ) (core : Option Id) → GoesOn old new most → AddsLines assumptions old new most core
+AddsLines-goes_on assumptions old new most core goes_on = record {
   extends = goes_on.extends;
   within = goes_on.within;
   news = λ i line from is. inl (goes_on.news i line from is);
 }
 
-AddsLines-own : (old mid new : Logged) (most : ℕ) (id : Id) → GoesOn old mid most → AddsOwnLine mid new most (Core id) → AddsLines old new most (Some id)
-AddsLines-own old mid new most id before own =
+AddsLines-own : (denied : ℕ → Bool) (assumptions : List ℕ) (turn : (clause : List ℕ) → IsFalsified (assumed assumptions) clause → IsFalsified denied clause) (old mid new : Logged) (most : ℕ) (id : Id) → GoesOn old mid most → AddsOwnLine denied mid new most (Core id) → AddsLines assumptions old new most (Some id)
+AddsLines-own denied assumptions turn old mid new most id before own =
     let long : length (with_line mid own.clause own.hints).lines ≡ length mid.lines + 1 = length_push mid.lines (line_of own.clause own.hints) in
     let room : length mid.lines < most = own.room in
     let name : Core id ≡ Core (Derived (length mid.lines + 1)) = own.named in
-    subst (λ (log : Logged). AddsLines old log most (Some id)) (sym own.is) (record {
+    subst (λ (log : Logged). AddsLines assumptions old log most (Some id)) (sym own.is) (record {
       extends = Extends-record old mid own.clause own.hints before.extends;
       within = λ _. omega arith;
       news = λ i line from is. elim (slice_get-push mid.lines (line_of own.clause own.hints) line i is) [
@@ -53,6 +53,9 @@ AddsLines-own old mid new most id before own =
             (sym (listed_at-record mid own.clause own.hints i (let inside : i < length mid.lines = slice_get_within mid.lines i line earlier in omega arith))) (before.news i line from earlier))
         | inr last ↦ inr (
           (let e : i ≡ length mid.lines = last.0 in let f : Some id ≡ Some (Derived (length mid.lines + 1)) = cc in f ∙ ap (λ n. Some (Derived (n + 1))) (sym e)),
+          subst (λ (n : ℕ). AreNotDenied (assumed assumptions) (listed_at n (with_line mid own.clause own.hints))) (sym last.0)
+              (subst (λ (listed : List (List ℕ)). AreNotDenied (assumed assumptions) listed) (sym (listed_at-record mid own.clause own.hints (length mid.lines) (omega arith)))
+              (λ clause listed false_there. own.alone clause listed (turn clause false_there))),
           subst (λ (x : Line). HasNoPart (listed_at i (with_line mid own.clause own.hints)) x.clause) last.1
               (subst (λ (n : ℕ). HasNoPart (listed_at n (with_line mid own.clause own.hints)) own.clause) (sym last.0)
               (subst (λ (listed : List (List ℕ)). HasNoPart listed own.clause) (sym (listed_at-record mid own.clause own.hints (length mid.lines) (omega arith))) own.has_no_part)),
@@ -60,15 +63,15 @@ AddsLines-own old mid new most id before own =
       ];
     })
 
-AddsLines-ends : (denied : ℕ → Bool) (old mid new : Logged) (most : ℕ) (id : Id) → GoesOn old mid most → EndsBy denied mid new most (Core id) → AddsLines old new most (Some id)
-AddsLines-ends denied old mid new most id before ends = elim ends.added [
-  | inl same ↦ subst (λ (log : Logged). AddsLines old log most (Some id)) (sym same) (AddsLines-goes_on old mid most (Some id) before)
-  | inr own ↦ AddsLines-own old mid new most id before own
+AddsLines-ends : (denied : ℕ → Bool) (assumptions : List ℕ) (turn : (clause : List ℕ) → IsFalsified (assumed assumptions) clause → IsFalsified denied clause) (old mid new : Logged) (most : ℕ) (id : Id) → GoesOn old mid most → EndsBy denied mid new most (Core id) → AddsLines assumptions old new most (Some id)
+AddsLines-ends denied assumptions turn old mid new most id before ends = elim ends.added [
+  | inl same ↦ subst (λ (log : Logged). AddsLines assumptions old log most (Some id)) (sym same) (AddsLines-goes_on assumptions old mid most (Some id) before)
+  | inr own ↦ AddsLines-own denied assumptions turn old mid new most id before own
 ]
 
-AddsLines-spent : (denied : ℕ → Bool) (old mid new : Logged) (most : ℕ) → GoesOn old mid most → EndsBy denied mid new most Spent → AddsLines old new most None
-AddsLines-spent denied old mid new most before ends = elim ends.added [
-  | inl same ↦ subst (λ (log : Logged). AddsLines old log most None) (sym same) (AddsLines-goes_on old mid most None before)
+AddsLines-spent : (denied : ℕ → Bool) (assumptions : List ℕ) (old mid new : Logged) (most : ℕ) → GoesOn old mid most → EndsBy denied mid new most Spent → AddsLines assumptions old new most None
+AddsLines-spent denied assumptions old mid new most before ends = elim ends.added [
+  | inl same ↦ subst (λ (log : Logged). AddsLines assumptions old log most None) (sym same) (AddsLines-goes_on assumptions old mid most None before)
   | inr own ↦ absurd (let e : Spent ≡ Core (Derived (length mid.lines + 1)) = own.named in cc)
 ]
 
@@ -113,7 +116,7 @@ module _ (flags : List Bool) (assumptions : List ℕ) (same : (l : ℕ) → mark
   denied_clause : (clause : List ℕ) → IsFalsified (marked flags) clause → IsFalsified (assumed assumptions) clause
   denied_clause clause all = All-weaker (λ (l : ℕ). marked flags (negation l) ≡ true) (λ (l : ℕ). assumed assumptions (negation l) ≡ true) (λ l is. sym (same (negation l)) ∙ is) clause all
 
-  flagged_clause : (clause : List ℕ) → IsFalsified (assumed assumptions) clause → IsFalsified (marked flags) clause
+  pub flagged_clause : (clause : List ℕ) → IsFalsified (assumed assumptions) clause → IsFalsified (marked flags) clause
   flagged_clause clause all = All-weaker (λ (l : ℕ). assumed assumptions (negation l) ≡ true) (λ (l : ℕ). marked flags (negation l) ≡ true) (λ l is. same (negation l) ∙ is) clause all
 
   pub Answers-run : (old : Logged) (new : Solver) (most : ℕ) (answer : Answer) (values : Option (List Bool)) → IsSolver new → RunsTo (marked flags) assumptions old new most answer → HasValues new.trail.entries new.trail.vars answer values → Answers new.log values assumptions most answer
@@ -128,7 +131,7 @@ module _ (flags : List Bool) (assumptions : List ℕ) (same : (l : ℕ) → mark
   )
   Answers-run old new most Spent values keeps runs has = (has, runs.finishes.is_end.0, λ id clause is denied. runs.finishes.is_end.1 id clause is (flagged_clause clause denied))
 
-pub AddsLines-run : (denied : ℕ → Bool) (assumptions : List ℕ) (old : Logged) (new : Solver) (most : ℕ) (answer : Answer) → RunsTo denied assumptions old new most answer → AddsLines old new.log most (named_by answer)
-AddsLines-run denied assumptions old new most Model runs = subst (λ (log : Logged). AddsLines old log most None) (sym runs.finishes.0) (AddsLines-goes_on old runs.mid most None runs.goes_on)
-AddsLines-run denied assumptions old new most (Core id) runs = AddsLines-ends denied old runs.mid new.log most id runs.goes_on runs.finishes
-AddsLines-run denied assumptions old new most Spent runs = AddsLines-spent denied old runs.mid new.log most runs.goes_on runs.finishes
+pub AddsLines-run : (denied : ℕ → Bool) (assumptions : List ℕ) (turn : (clause : List ℕ) → IsFalsified (assumed assumptions) clause → IsFalsified denied clause) (old : Logged) (new : Solver) (most : ℕ) (answer : Answer) → RunsTo denied assumptions old new most answer → AddsLines assumptions old new.log most (named_by answer)
+AddsLines-run denied assumptions turn old new most Model runs = subst (λ (log : Logged). AddsLines assumptions old log most None) (sym runs.finishes.0) (AddsLines-goes_on assumptions old runs.mid most None runs.goes_on)
+AddsLines-run denied assumptions turn old new most (Core id) runs = AddsLines-ends denied assumptions turn old runs.mid new.log most id runs.goes_on runs.finishes
+AddsLines-run denied assumptions turn old new most Spent runs = AddsLines-spent denied assumptions old runs.mid new.log most runs.goes_on runs.finishes

@@ -26,6 +26,10 @@ pub record IsDenied (denied : ℕ → Bool) (log : Logged) (id : Id) : Type 0 wh
   pub names : named log.axioms (standing log.lines) id ≡ Some clause
   pub false_there : IsFalsified denied clause
 
+-- none of these clauses is false where these literals are true
+abbrev pub AreNotDenied : (ℕ → Bool) → List (List ℕ) → Type 0
+AreNotDenied denied listed = (clause : List ℕ) → Contains listed clause → IsFalsified denied clause → ⊥
+
 -- no axiom or standing line is false where these literals are true
 abbrev pub NoneIsDenied : (ℕ → Bool) → Logged → Type 0
 NoneIsDenied denied log = (id : Id) (clause : List ℕ) → named log.axioms (standing log.lines) id ≡ Some clause → IsFalsified denied clause → ⊥

@@ -11,7 +11,7 @@ use Rattle.sat_arena.specs.Held.{clauses_of}
 use Rattle.sat_arena.specs.Newness.{IsNew}
 use Rattle.sat_analyze.specs.Derived.{HasVariable}
 use Rattle.sat_search.specs.Orders.{AllAssigned}
-use Rattle.sat_search.specs.Assumed.{AllTrue, IsDenied, NoneIsDenied}
+use Rattle.sat_search.specs.Assumed.{AllTrue, IsDenied, NoneIsDenied, AreNotDenied}
 use Rattle.sat_search.specs.Descents.{AreSettled}
 use Rattle.sat_search.specs.Additions.{Extends, AreNewFrom, HasVariables, HasNoPart, listed_at}
 use Rattle.sat_search.specs.declared.solver.Solver.{Solver}
@@ -39,12 +39,14 @@ pub record AddsNewLine (old new : Logged) (most : ℕ) : Type 0 where
   pub room : length old.lines < most
   pub variables : HasVariables old → HasVariables new
 
--- the log got one more line, which the answer names, and of which no axiom or line that stood is a part
-pub record AddsOwnLine (old new : Logged) (most : ℕ) (answer : Answer) : Type 0 where
+-- where no axiom and no line that stood is false under what is assumed, the log got one more line, which the
+-- answer names, and of which none of them is a part
+pub record AddsOwnLine (assumed : ℕ → Bool) (old new : Logged) (most : ℕ) (answer : Answer) : Type 0 where
   pub clause : List ℕ
   pub hints : List Id
   pub is : new ≡ record old { lines = old.lines ++ record { clause = clause; hints = hints; retired = None } ∷ [] }
   pub named : answer ≡ Core (Derived (length old.lines + 1))
+  pub alone : AreNotDenied assumed (listed_at (length old.lines) old)
   pub has_no_part : HasNoPart (listed_at (length old.lines) old) clause
   pub room : length old.lines < most
   pub variables : HasVariables old → HasVariables new
@@ -52,7 +54,7 @@ pub record AddsOwnLine (old new : Logged) (most : ℕ) (answer : Answer) : Type 
 -- the answer was there, or was made by one more line
 pub record EndsBy (assumed : ℕ → Bool) (old new : Logged) (most : ℕ) (answer : Answer) : Type 0 where
   pub is_end : IsEnd assumed new most answer
-  pub added : (new ≡ old) ⊎ AddsOwnLine old new most answer
+  pub added : (new ≡ old) ⊎ AddsOwnLine assumed old new most answer
 
 -- a search went on from one log to the other, and each line that it added is new to propagation where it stands
 pub record GoesOn (old new : Logged) (most : ℕ) : Type 0 where

@@ -26,4 +26,4 @@ HasValues entries vars Spent found = found ≡ None
 -- the answer and its values are right at the log as it was left, to which new lines alone were added
 pub record IsFound (assumptions : List ℕ) (old new : Logged) (most : ℕ) (found : Found) : Type 0 where
   pub answers : Answers new (option_map (λ values. values.items) found.values) assumptions most found.answer
-  pub adds : AddsLines old new most (named_by found.answer)
+  pub adds : AddsLines assumptions old new most (named_by found.answer)

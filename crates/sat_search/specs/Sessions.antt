@@ -8,7 +8,7 @@ use Rattle.proof_log.specs.declared.log.Line.{Line}
 use Rattle.proof_log.specs.Logged.{Logged, standing}
 use Rattle.sat_arena.specs.Trails.{marked}
 use Rattle.sat_arena.specs.Newness.{IsNew}
-use Rattle.sat_search.specs.Assumed.{assumed, IsDenied, NoneIsDenied}
+use Rattle.sat_search.specs.Assumed.{assumed, IsDenied, NoneIsDenied, AreNotDenied}
 use Rattle.sat_search.specs.Additions.{present, listed_at, Extends, HasNoPart}
 use Rattle.sat_search.specs.declared.answer.Answer.{Answer}
 use Rattle.sat_search.specs.declared.answer.Answer.TheVariants.{Model, Core, Spent}
@@ -42,8 +42,9 @@ core_of (Ok Spent) = None
 core_of (Err e) = None
 
 -- the log grew by lines alone, up to so many. Each is new to propagation over the axioms and the lines that
--- stood before it; or it is the one that the Core names, and none of those is a part of it
-pub record AddsLines (old new : Logged) (most : ℕ) (core : Option Id) : Type 0 where
+-- stood before it; or it is the one that the Core names, none of those held only negated assumptions, and none
+-- of them is a part of it
+pub record AddsLines (assumptions : List ℕ) (old new : Logged) (most : ℕ) (core : Option Id) : Type 0 where
   pub extends : Extends old new
   pub within : length old.lines < length new.lines → length new.lines ≤ most
-  pub news : (i : ℕ) (line : Line) → length old.lines ≤ i → slice_get new.lines i ≡ Some line → IsNew (listed_at i new) line.clause ⊎ ((core ≡ Some (Derived (i + 1))) × HasNoPart (listed_at i new) line.clause)
+  pub news : (i : ℕ) (line : Line) → length old.lines ≤ i → slice_get new.lines i ≡ Some line → IsNew (listed_at i new) line.clause ⊎ ((core ≡ Some (Derived (i + 1))) × AreNotDenied (assumed assumptions) (listed_at i new) × HasNoPart (listed_at i new) line.clause)

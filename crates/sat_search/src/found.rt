@@ -43,7 +43,7 @@ impl Solver {
         ensures solver { OnOk result (IsSolver self.new) }
         ensures variables { HasVariables self.new.log }
         ensures ok { IfOk result (IsFound assumptions.now self.old.log self.new.log most) }
-        ensures err { OnErr result (AddsLines self.old.log self.new.log most None) }
+        ensures err { OnErr result (AddsLines assumptions.now self.old.log self.new.log most None) }
     {
         let flags = flags_of(alloc, assumptions, vars)?;
         let answer = self.run(alloc, assumptions, &flags, most)?;

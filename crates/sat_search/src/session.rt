@@ -120,7 +120,7 @@ impl Session {
         requires no_clash { HasClash assumptions.now → ⊥ }
         ensures asked { self.new.asked ≡ min (self.old.asked + 1) (2 ^ 64 - 1) }
         ensures vars { self.new.vars ≡ self.old.vars }
-        ensures lines { AddsLines self.old.log self.new.log most (core_of result) }
+        ensures lines { AddsLines assumptions.now self.old.log self.new.log most (core_of result) }
         ensures ok { IfOk result (Answers self.new.log self.new.model assumptions.now most) }
         ensures went_on { OnOk result (self.new.ended ≡ false) }
         ensures went_on_before { OnOk result (self.old.ended ≡ false) }
