@@ -44,6 +44,22 @@ fn add(alloc: Global, session: &mut Session, vars: u32, signed: &[i32]) -> Resul
     Ok(())
 }
 
+/// Adds the clauses of two literals, over variables that are grown up to this one.
+fn add_pairs(
+    alloc: Global,
+    session: &mut Session,
+    vars: u32,
+    pairs: &[[i32; 2]],
+) -> Result<(), Fail>
+    requires { vars ≤ session.old.vars }
+    ensures { session.new.vars ≡ session.old.vars }
+{
+    for signed in pairs {
+        add(alloc, session, vars, signed)?;
+    }
+    Ok(())
+}
+
 /// Solves under signed assumptions, over variables that are grown up to this one, and fails where the
 /// answer or the count of derived lines is another one.
 fn expect(
@@ -105,12 +121,17 @@ fn two_variables_are_refuted_in_two_lines(rt: HostRuntime) -> Result<(), Fail> {
     let alloc = rt.alloc();
     let mut session = Session::new(alloc);
     session.grow(2)?;
-    for signed in [[1, 2], [1, -2], [-1, 2], [-1, -2]] {
-        add(alloc, &mut session, 2, &signed)?;
-    }
+    add_pairs(
+        alloc,
+        &mut session,
+        2,
+        &[[1, 2], [1, -2], [-1, 2], [-1, -2]],
+    )?;
     expect(alloc, &mut session, 2, &[], 0, (Answer::Spent, 0))?;
     expect(alloc, &mut session, 2, &[], 10, (core(2), 2))?;
-    assert_eq!(rt; session.log().clause(2).lits().len(), 0);
+    let log = session.log();
+    assert_eq!(rt; log.derived(), 2);
+    assert_eq!(rt; log.clause(2).lits().len(), 0);
     assert_eq!(rt; session.asked(), 2);
     Ok(())
 }
@@ -121,9 +142,7 @@ fn implications(alloc: Global) -> Result<Session, Fail>
 {
     let mut session = Session::new(alloc);
     session.grow(4)?;
-    for signed in [[-1, 2], [-2, 3], [-3, -4]] {
-        add(alloc, &mut session, 4, &signed)?;
-    }
+    add_pairs(alloc, &mut session, 4, &[[-1, 2], [-2, 3], [-3, -4]])?;
     Ok(session)
 }
 
