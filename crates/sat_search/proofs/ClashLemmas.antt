@@ -18,14 +18,6 @@ Contains-from_search lits l found =
 pub search_finds : (lits : List ℕ) (l : ℕ) → Contains lits l → list_any (λ x. x == l) lits ≡ true
 search_finds lits l holds = list_any_at (λ (x : ℕ). x == l) lits holds.0 l holds.1 (eq-eqb (get_or lits holds.0 l) l holds.2)
 
--- a literal whose negation was found
-pub HasClash-from_found : (lits : List ℕ) (k : ℕ) → k < length lits → list_any (λ x. x == negation (get_or lits k 0)) lits ≡ true → HasClash lits
-HasClash-from_found lits k within found = (
-  get_or lits k 0,
-  (k, within, get_or_default lits k (get_or lits k 0) 0 within),
-  Contains-from_search lits (negation (get_or lits k 0)) found,
-)
-
 -- no literal's negation was found
 pub no_clash : (lits : List ℕ) → ((k : ℕ) → k < length lits → list_any (λ x. x == negation (get_or lits k 0)) lits ≡ false) → HasClash lits → ⊥
 no_clash lits none clash =

@@ -1,9 +1,8 @@
 -- A search that ends by one more line, and one that learns.
-use Rattle.std.proofs.Common.{◌≡◌, ◌<◌, ◌≤◌, ℕ, List, [], ◌∷◌, ◌++◌, Some, Bool, true, arith, subst, sym, ap, ◌∙◌, inl, inr, get_or, length}
+use Rattle.std.proofs.Common.{◌≡◌, ◌<◌, ◌≤◌, ℕ, List, [], ◌∷◌, ◌++◌, Some, Bool, true, arith, subst, sym, ap, ◌∙◌, inr, get_or, length}
 use Rattle.std.specs.Prelude.{All, Contains}
-use Rattle.std.proofs.lemmas.Bool.{both_ways, cases_eq}
 use Rattle.std.proofs.lemmas.List.{map-append}
-use Rattle.std.proofs.lemmas.List.Elements.{All-nil, All-cons, All-contains, All-push, Contains-push, Contains-get_or}
+use Rattle.std.proofs.lemmas.List.Elements.{All-nil, All-cons, All-contains, All-push, Contains-push}
 use Rattle.smv_ast.specs.declared.proof.Id.{Id}
 use Rattle.smv_ast.specs.declared.proof.Id.TheVariants.{Derived}
 use Rattle.sat_lits.specs.Literals.{negation, variable_of}
@@ -15,19 +14,19 @@ use Rattle.sat_arena.specs.Stored.{Stored}
 use Rattle.sat_arena.specs.Held.{Held, clauses_of, AreGrown}
 use Rattle.sat_arena.specs.Settled.{HasTwo}
 use Rattle.sat_arena.specs.Trails.{told, up_to, IsGrown}
-use Rattle.sat_arena.specs.Justified.{newest, IsDecision}
+use Rattle.sat_arena.specs.Justified.{newest}
 use Rattle.sat_analyze.specs.declared.learnt.Learnt.{Learnt}
 use Rattle.sat_analyze.specs.Derived.{HasVariable}
-use Rattle.sat_analyze.specs.Learnt.{IsFinal, IsLearnt}
+use Rattle.sat_analyze.specs.Learnt.{IsLearnt}
 use Rattle.sat_search.specs.Assumed.{AreNotDenied, NoneIsDenied}
 use Rattle.sat_search.specs.Additions.{HasNoPart, listed_at, HasVariables}
 use Rattle.sat_search.specs.Solvers.{IsReady, IsSolver}
-use Rattle.sat_search.specs.Endings.{Records, Refutes, IsRefused, EndsBy, AddsNewLine}
+use Rattle.sat_search.specs.Endings.{Records, Refutes, EndsBy, AddsNewLine}
 use Rattle.sat_search.specs.declared.solver.Solver.{Solver}
 use Rattle.sat_search.specs.declared.answer.Answer.TheVariants.{Core}
 use Rattle.sat_search.proofs.KeepsLemmas.{with_line, derived_named, listed_has_name, listed_is_stored, KeepsLog-record, HasVariables-record}
 use Rattle.sat_search.proofs.LevelLaws.{newest-up_to, up_to-up_to}
-use Rattle.sat_search.proofs.LearntLemmas.{IsReady-add, grown_if_true, grown_if_false, grown_negation, learnt_is_new, learnt_is_not_stored, learnt_has_no_unit, learnt_has_two}
+use Rattle.sat_search.proofs.LearntLemmas.{IsReady-add, grown_if_false, learnt_is_new, learnt_is_not_stored, learnt_has_no_unit, learnt_has_two}
 
 -- ---- A clause of negated assumptions, where none was known
 
@@ -93,47 +92,7 @@ EndsBy-record denied old new clause hints id most solver solver' records sound r
 
 -- ---- The clause of a refused assumption
 
-negation_twice : (l : ℕ) → negation (negation l) ≡ l
-negation_twice l = omega arith
-
-pub not_decided : (denied : ℕ → Bool) (entries : List Assigned) (lit : ℕ) → IsRefused denied entries lit → IsDecision entries (negation lit) → ⊥
-not_decided denied entries lit refused decision =
-    both_ways (denied (negation lit)) refused.undecided (subst (λ (l : ℕ). denied l ≡ true) decision.of_literal (refused.decided decision.entry decision.stands decision.decided))
-
-pub Refutes-final : (denied : ℕ → Bool) (solver : Solver) (lit : ℕ) (learnt : Learnt) → IsSolver solver → IsRefused denied solver.trail.entries lit → NoneIsDenied denied solver.log → IsFinal solver.arena.stored solver.trail.entries lit learnt → Refutes denied solver learnt.clause learnt.hints
-Refutes-final denied solver lit learnt keeps refused alone final = record {
-  right = final.right solver.log.axioms (standing solver.log.lines) keeps.keeps.names;
-  denied = λ k d within.
-      let l = get_or learnt.clause k d in
-      elim (cases_eq l (negation lit)) [
-        | inl own ↦ subst (λ (n : ℕ). denied n ≡ true) (sym (ap negation own ∙ negation_twice lit)) refused.assumes
-        | inr other ↦ (let decision = final.decisions l (Contains-get_or learnt.clause k d within) other in
-            subst (λ (n : ℕ). denied n ≡ true) decision.of_literal (refused.decided decision.entry decision.stands decision.decided))
-      ];
-  alone = alone;
-  grown = λ k d within.
-      let l = get_or learnt.clause k d in
-      elim (cases_eq l (negation lit)) [
-        | inl own ↦ subst (IsGrown solver.trail.vars) (sym own) (grown_if_true solver.trail.entries solver.trail.vars (negation lit) keeps.ready.orderly refused.false_there)
-        | inr other ↦ (let decision = final.decisions l (Contains-get_or learnt.clause k d within) other in
-            grown_negation solver.trail.vars l (subst (IsGrown solver.trail.vars) decision.of_literal
-            (All-contains (λ (e : Assigned). IsGrown solver.trail.vars e.lit) solver.trail.entries decision.entry keeps.ready.orderly.within decision.stands)))
-      ];
-  variables = final.variables;
-}
-
 -- ---- The empty clause
-
-pub Refutes-empty : (denied : ℕ → Bool) (solver : Solver) (learnt : Learnt) → IsSolver solver → newest solver.trail.entries ≡ 0 → NoneIsDenied denied solver.log → IsLearnt solver.arena.stored solver.trail.entries learnt → Refutes denied solver learnt.clause learnt.hints
-Refutes-empty denied solver learnt keeps root alone is =
-    let empty : learnt.clause ≡ [] = (is.refutes root).0 in
-    record {
-      right = is.right solver.log.axioms (standing solver.log.lines) keeps.keeps.names;
-      denied = subst (IsFalsified denied) (sym empty) (All-nil (λ (l : ℕ). denied (negation l) ≡ true));
-      alone = alone;
-      grown = subst (λ (clause : List ℕ). All (IsGrown solver.trail.vars) clause) (sym empty) (All-nil (IsGrown solver.trail.vars));
-      variables = is.variables;
-    }
 
 -- ---- Going back before the line is added
 

@@ -15,7 +15,7 @@ use Rattle.sat_arena.specs.Trailed.{Trailed}
 use Rattle.sat_arena.specs.Held.{Held, clauses_of, AreGrown}
 use Rattle.sat_arena.specs.Trails.{IsGrown}
 use Rattle.sat_arena.specs.Justified.{newest}
-use Rattle.sat_arena.proofs.JustifiedLemmas.{IsJustified-nil, IsJustified-add}
+use Rattle.sat_arena.proofs.JustifiedLemmas.{IsJustified-add}
 use Rattle.sat_analyze.specs.Derived.{HasVariable}
 use Rattle.sat_search.specs.Axioms.{axioms_from}
 use Rattle.sat_search.specs.Solvers.{IsReady, IsSolver, KeepsLog}
@@ -28,31 +28,6 @@ use Rattle.sat_search.proofs.KeepsLemmas.{named_derived, axiom_named}
 nothing_named : (id : Id) (clause : List ℕ) → named [] [] id ≡ Some clause → Contains (clauses_of []) clause
 nothing_named (Axiom n) clause is = absurd (let e : None ≡ Some clause = sym (numbered-nil n) ∙ is in cc)
 nothing_named (Derived n) clause is = absurd (let e : None ≡ Some (Some clause) = sym (numbered-nil n) ∙ named_derived [] [] n clause is in cc)
-
-pub IsSolver-nil : (log : Logged) (arena : Held) (trail : Trailed) (order : ℕ) → log ≡ record { axioms = []; lines = [] } → arena ≡ record { stored = []; vars = 0 } → trail ≡ record { entries = []; vars = 0 } → order ≡ 0 → IsSolver (record { log = log; arena = arena; trail = trail; order = order })
-IsSolver-nil log arena trail order log_is arena_is trail_is order_is =
-    subst (λ (l : Logged). IsSolver (record { log = l; arena = arena; trail = trail; order = order })) (sym log_is)
-    (subst (λ (a : Held). IsSolver (record { log = record { axioms = []; lines = [] }; arena = a; trail = trail; order = order })) (sym arena_is)
-    (subst (λ (t : Trailed). IsSolver (record { log = record { axioms = []; lines = [] }; arena = record { stored = []; vars = 0 }; trail = t; order = order })) (sym trail_is)
-    (record {
-      keeps = record {
-        names = All-nil (λ (s : Stored). named [] [] s.id ≡ Some s.clause);
-        listed = nothing_named;
-        variables = All-nil (λ (clause : List ℕ). All (λ l. HasVariable [] (variable_of l)) clause);
-      };
-      ready = record {
-        orderly = record {
-          apart = λ i j d below within. absurd (omega arith);
-          rising = λ i j d below within. absurd (omega arith);
-          within = All-nil (λ (e : Assigned). IsGrown 0 e.lit);
-        };
-        justified = IsJustified-nil [];
-        settled = λ k below. absurd (omega arith);
-      };
-      arena_vars = refl;
-      order_vars = order_is;
-      grown = All-nil (λ (clause : List ℕ). All (IsGrown 0) clause);
-    })))
 
 -- ---- More variables
 

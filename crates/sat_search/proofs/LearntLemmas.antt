@@ -2,9 +2,8 @@
 use Rattle.std.proofs.Common.{◌≡◌, ◌<◌, ◌≤◌, ◌-◌, ◌==◌, ℕ, List, [], ◌∷◌, ◌++◌, Bool, true, false, cond, arith, subst, sym, ap, ◌∙◌, refl, inl, inr, get_or, zero, suc}
 use Rattle.std.specs.Prelude.{All, Contains}
 use Rattle.std.specs.List.{AllPairs}
-use Rattle.std.proofs.lemmas.Bool.{cases_Bool, cases_order, cases_lt, le-leb, lt-leb, or_cases, eqb-true, eq-eqb, false≢true}
+use Rattle.std.proofs.lemmas.Bool.{cases_Bool, cases_order, cases_lt, le-leb, lt-leb, or_cases, eqb-true, false≢true}
 use Rattle.std.proofs.lemmas.List.{get_or_default}
-use Rattle.std.proofs.lemmas.List.Folds.{list_any_at}
 use Rattle.std.proofs.lemmas.List.Elements.{All-contains, Contains-get_or}
 use Rattle.sat_lits.specs.Literals.{negation, variable_of}
 use Rattle.sat_lits.specs.Steps.{IsFalsified}
@@ -63,11 +62,6 @@ not_yet entries vars l level k orderly here below = elim (cases_Bool (told (up_t
       omega (arith, early.3))
   | inr false_there ↦ false_there
 ]
-
-pub told_at : (entries : List Assigned) (l level : ℕ) → IsTrueAt entries l level → told entries l ≡ true
-told_at entries l level here =
-    list_any_at (λ (e : Assigned). e.lit == l) entries here.stands.0 here.entry here.stands.1
-    (eq-eqb (get_or entries here.stands.0 here.entry).lit l (ap (λ (x : Assigned). x.lit) here.stands.2 ∙ here.of_literal))
 
 -- a literal that is true or false is of one of the variables
 pub grown_if_true : (entries : List Assigned) (vars l : ℕ) → IsOrderly entries vars → told entries l ≡ true → IsGrown vars l

@@ -21,9 +21,6 @@ level_at [] i d within = absurd (omega arith)
 level_at (e ∷ es) zero d within = refl
 level_at (e ∷ es) (suc i) d within = level_at es i d (omega arith)
 
-pub newest-nil : newest [] ≡ 0
-newest-nil = refl
-
 pub newest-push : (entries : List Assigned) (entry : Assigned) → newest (entries ++ entry ∷ []) ≡ entry.level
 newest-push entries entry =
     let long : length (entries ++ entry ∷ []) ≡ length entries + 1 = length_push entries entry in
