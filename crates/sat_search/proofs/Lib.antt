@@ -1,0 +1,12 @@
+pub mod OrderLemmas
+pub mod ClashLemmas
+pub mod LevelLaws
+pub mod ToldLemmas
+pub mod ReadyLemmas
+pub mod LearntLemmas
+pub mod KeepsLemmas
+pub mod EndLemmas
+pub mod RunLemmas
+pub mod ModelLemmas
+pub mod FoundLemmas
+pub mod GrowthLemmas

@@ -1,0 +1,12 @@
+pub mod Clashes
+pub mod Orders
+pub mod Levels
+pub mod Additions
+pub mod Assumed
+pub mod Solvers
+pub mod Descents
+pub mod Endings
+pub mod Sessions
+pub mod Founds
+pub mod Axioms
+pub mod SessionState

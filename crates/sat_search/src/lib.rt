@@ -1,0 +1,24 @@
+//! A search for values that satisfy clauses, which keeps a log of what it derives.
+#![tactic(auto)]
+
+mod answer;
+mod clashes;
+mod conclusion;
+mod denial;
+mod descent;
+mod found;
+mod growth;
+mod heap;
+mod learning;
+mod order;
+mod restarts;
+mod run;
+mod session;
+mod solver;
+
+pub use answer::Answer;
+pub use clashes::clash;
+pub use session::Session;
+
+#[cfg(test)]
+mod tests;
