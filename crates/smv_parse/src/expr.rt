@@ -316,17 +316,17 @@ impl<F: Fn(Global, &mut Cursor<'_>, usize, u32, Level) -> Result<Tree, ReadError
     {
         if tokens.sees(Kind::True) {
             close(tokens, 1 < bound, Kind::True)?;
-            Ok(Tree::constant(true))
+            Ok(Tree::constant(self.alloc, true)?)
         } else if tokens.sees(Kind::False) {
             close(tokens, 1 < bound, Kind::False)?;
-            Ok(Tree::constant(false))
+            Ok(Tree::constant(self.alloc, false)?)
         } else if tokens.sees(Kind::Name) {
             path(self.alloc, tokens, 1 < bound)
         } else if tokens.sees(Kind::OpenParen) {
             self.parens(tokens, bound)
         } else if tokens.sees(Kind::OpenBrace) {
             let parts = self.braces(tokens, inside(bound))?;
-            Ok(Tree::pick(parts))
+            Ok(Tree::pick(self.alloc, parts)?)
         } else if tokens.sees(Kind::Next) {
             self.next_value(tokens, bound)
         } else {
@@ -342,7 +342,7 @@ impl<F: Fn(Global, &mut Cursor<'_>, usize, u32, Level) -> Result<Tree, ReadError
         ensures { Gives (at_depth spec.read_negated self.now.depth (Below bound) tokens.old) result tokens.new }
     {
         if sees_number(tokens) && tokens.sees_behind(Kind::DotDot) {
-            return negative_interval(tokens, 1 < bound);
+            return negative_interval(self.alloc, tokens, 1 < bound);
         }
         let inner = self.expr(tokens, inside(bound), Level::Signed)?;
         Ok(Tree::negative(self.alloc, inner)?)
@@ -380,7 +380,7 @@ impl<F: Fn(Global, &mut Cursor<'_>, usize, u32, Level) -> Result<Tree, ReadError
         ensures { Gives (at_depth spec.read_unary self.now.depth (Below bound) tokens.old) result tokens.new }
     {
         if sees_number(tokens) {
-            number(tokens, 1 < bound)
+            number(self.alloc, tokens, 1 < bound)
         } else {
             self.signed(tokens, bound)
         }
@@ -394,7 +394,7 @@ impl<F: Fn(Global, &mut Cursor<'_>, usize, u32, Level) -> Result<Tree, ReadError
         ensures { Gives (at_depth spec.read_negatable self.now.depth (Below bound) tokens.old) result tokens.new }
     {
         if sees_number(tokens) {
-            single(tokens, 1 < bound)
+            single(self.alloc, tokens, 1 < bound)
         } else {
             self.signed(tokens, bound)
         }

@@ -38,10 +38,10 @@ pub fn inside(bound: u32) -> u32
     bound.saturating_sub(1)
 }
 
-/// An expression.
+/// An expression. It is boxed, so that the readers, which call each other deep, hand on little.
 #[derive(Drop)]
 pub struct Tree {
-    expr: Expr,
+    expr: Boxed<Expr>,
     height: u32,
 }
 
@@ -63,46 +63,47 @@ impl Model for Tree {
 }
 
 impl Tree {
+    fn leaf(alloc: Global, expr: Expr) -> Result<Tree, NoMemory>
+        requires { height expr ≡ 1 }
+        ensures { IfOk result (λ t. t ≡ expr) }
+    {
+        Ok(Tree {
+            expr: Boxed::new(alloc, expr)?,
+            height: 1,
+        })
+    }
+
     /// TRUE or FALSE.
     #[tactic(auto, using(crate::proofs::HeightLemmas::height_constant))]
-    pub fn constant(value: bool) -> Tree
-        ensures { result ≡ constant value }
+    pub fn constant(alloc: Global, value: bool) -> Result<Tree, NoMemory>
+        ensures { IfOk result (λ t. t ≡ constant value) }
     {
         let expr = if value { Expr::True } else { Expr::False };
-        Tree { expr, height: 1 }
+        Tree::leaf(alloc, expr)
     }
 
     /// A numeral.
     #[tactic(auto, using(crate::proofs::HeightLemmas::height_number))]
-    pub fn number(value: u32) -> Tree
-        ensures { result ≡ Expr.Number value }
+    pub fn number(alloc: Global, value: u32) -> Result<Tree, NoMemory>
+        ensures { IfOk result (λ t. t ≡ Expr.Number value) }
     {
-        Tree {
-            expr: Expr::Number(value),
-            height: 1,
-        }
+        Tree::leaf(alloc, Expr::Number(value))
     }
 
     /// A path.
     #[tactic(auto, using(crate::proofs::HeightLemmas::height_name))]
-    pub fn path(path: Path) -> Tree
-        ensures { result ≡ Expr.Name path }
+    pub fn path(alloc: Global, path: Path) -> Result<Tree, NoMemory>
+        ensures { IfOk result (λ t. t ≡ Expr.Name path) }
     {
-        Tree {
-            expr: Expr::Name(path),
-            height: 1,
-        }
+        Tree::leaf(alloc, Expr::Name(path))
     }
 
     /// `low..high` as a value.
     #[tactic(auto, using(crate::proofs::HeightLemmas::height_interval))]
-    pub fn interval(low: i64, high: i64) -> Tree
-        ensures { result ≡ Expr.Pick (Choice.Between low high) }
+    pub fn interval(alloc: Global, low: i64, high: i64) -> Result<Tree, NoMemory>
+        ensures { IfOk result (λ t. t ≡ Expr.Pick (Choice.Between low high)) }
     {
-        Tree {
-            expr: Expr::Pick(Choice::Between { low, high }),
-            height: 1,
-        }
+        Tree::leaf(alloc, Expr::Pick(Choice::Between { low, high }))
     }
 
     /// `-a`.
@@ -112,7 +113,7 @@ impl Tree {
     {
         Ok(Tree {
             height: above(a.height),
-            expr: Expr::Neg(Boxed::new(alloc, a.expr)?),
+            expr: Boxed::new(alloc, Expr::Neg(a.expr))?,
         })
     }
 
@@ -123,7 +124,7 @@ impl Tree {
     {
         Ok(Tree {
             height: above(a.height),
-            expr: Expr::Not(Boxed::new(alloc, a.expr)?),
+            expr: Boxed::new(alloc, Expr::Not(a.expr))?,
         })
     }
 
@@ -134,7 +135,7 @@ impl Tree {
     {
         Ok(Tree {
             height: above(a.height),
-            expr: Expr::Next(Boxed::new(alloc, a.expr)?),
+            expr: Boxed::new(alloc, Expr::Next(a.expr))?,
         })
     }
 
@@ -145,11 +146,7 @@ impl Tree {
     {
         Ok(Tree {
             height: above(left.height.max(right.height)),
-            expr: Expr::Binary(
-                op,
-                Boxed::new(alloc, left.expr)?,
-                Boxed::new(alloc, right.expr)?,
-            ),
+            expr: Boxed::new(alloc, Expr::Binary(op, left.expr, right.expr))?,
         })
     }
 
@@ -160,7 +157,7 @@ impl Tree {
     {
         Ok(Tree {
             height: above(a.height.max(choice.height)),
-            expr: Expr::Within(Boxed::new(alloc, a.expr)?, choice.choice),
+            expr: Boxed::new(alloc, Expr::Within(a.expr, choice.choice))?,
         })
     }
 
@@ -174,20 +171,20 @@ impl Tree {
         branches.push(first.branch)?;
         branches.append(more.branches)?;
         Ok(Tree {
-            expr: Expr::Cases(branches),
+            expr: Boxed::new(alloc, Expr::Cases(branches))?,
             height,
         })
     }
 
     /// A set of values as a value.
     #[tactic(auto, using(crate::proofs::HeightLemmas::height_pick))]
-    pub fn pick(choice: Parts) -> Tree
-        ensures { result ≡ Expr.Pick choice }
+    pub fn pick(alloc: Global, choice: Parts) -> Result<Tree, NoMemory>
+        ensures { IfOk result (λ t. t ≡ Expr.Pick choice) }
     {
-        Tree {
+        Ok(Tree {
             height: above(choice.height),
-            expr: Expr::Pick(choice.choice),
-        }
+            expr: Boxed::new(alloc, Expr::Pick(choice.choice))?,
+        })
     }
 
     /// Whether the tree is lower than `bound`.
@@ -210,7 +207,7 @@ impl Tree {
     pub fn into_expr(self) -> Expr
         ensures { result ≡ self }
     {
-        self.expr
+        self.expr.into_inner()
     }
 }
 
@@ -339,7 +336,7 @@ impl Parts {
     {
         let height = first.height.max(more.height);
         let mut exprs = List::new(alloc);
-        exprs.push(first.expr)?;
+        exprs.push(first.expr.into_inner())?;
         exprs.append(more.exprs)?;
         Ok(Parts {
             choice: Choice::Each(exprs),
@@ -394,7 +391,7 @@ impl Trees {
         ensures { IfOk result (λ _. self.new ≡ self.old ++ tree ∷ []) }
     {
         let height = self.height.max(tree.height);
-        self.exprs.push(tree.expr)?;
+        self.exprs.push(tree.expr.into_inner())?;
         self.height = height;
         Ok(())
     }
@@ -432,8 +429,8 @@ impl Arm {
         Arm {
             height: cond.height.max(value.height),
             branch: Branch {
-                cond: cond.expr,
-                value: value.expr,
+                cond: cond.expr.into_inner(),
+                value: value.expr.into_inner(),
             },
         }
     }

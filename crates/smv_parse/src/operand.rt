@@ -65,43 +65,47 @@ pub fn up_to(tokens: &mut Cursor<'_>, fits: bool) -> Result<i64, ReadError>
 }
 
 #[tactic(auto, unfolding(crate::specs::ExprReaders::read_interval_expr))]
-fn interval(tokens: &mut Cursor<'_>, fits: bool) -> Result<Tree, ReadError>
+fn interval(alloc: Global, tokens: &mut Cursor<'_>, fits: bool) -> Result<Tree, ReadError>
     ensures { Gives (spec.read_interval_expr false fits tokens.old) result tokens.new }
 {
     let (low, _) = tokens.limited()?;
     let high = up_to(tokens, fits)?;
-    Ok(Tree::interval(i64::from(low), high))
+    Ok(Tree::interval(alloc, i64::from(low), high)?)
 }
 
 /// A numeral that begins no interval.
 #[tactic(auto, unfolding(crate::specs::ExprReaders::read_single))]
-pub fn single(tokens: &mut Cursor<'_>, fits: bool) -> Result<Tree, ReadError>
+pub fn single(alloc: Global, tokens: &mut Cursor<'_>, fits: bool) -> Result<Tree, ReadError>
     ensures { Gives (spec.read_single false fits tokens.old) result tokens.new }
 {
     let (value, _) = last(tokens, fits)?;
-    Ok(Tree::number(value))
+    Ok(Tree::number(alloc, value)?)
 }
 
 /// A numeral, or the interval that begins with it.
 #[tactic(auto, unfolding(crate::specs::ExprReaders::read_number))]
-pub fn number(tokens: &mut Cursor<'_>, fits: bool) -> Result<Tree, ReadError>
+pub fn number(alloc: Global, tokens: &mut Cursor<'_>, fits: bool) -> Result<Tree, ReadError>
     ensures { Gives (spec.read_number false fits tokens.old) result tokens.new }
 {
     if tokens.sees_behind(Kind::DotDot) {
-        interval(tokens, fits)
+        interval(alloc, tokens, fits)
     } else {
-        single(tokens, fits)
+        single(alloc, tokens, fits)
     }
 }
 
 /// The interval behind a `-` that belongs to its lower end.
 #[tactic(auto, unfolding(crate::specs::ExprReaders::read_negative_interval))]
-pub fn negative_interval(tokens: &mut Cursor<'_>, fits: bool) -> Result<Tree, ReadError>
+pub fn negative_interval(
+    alloc: Global,
+    tokens: &mut Cursor<'_>,
+    fits: bool,
+) -> Result<Tree, ReadError>
     ensures { Gives (spec.read_negative_interval false fits tokens.old) result tokens.new }
 {
     let (low, _) = tokens.limited()?;
     let high = up_to(tokens, fits)?;
-    Ok(Tree::interval(-i64::from(low), high))
+    Ok(Tree::interval(alloc, -i64::from(low), high)?)
 }
 
 /// A `.`, and the name behind it.
@@ -155,5 +159,5 @@ pub fn path(alloc: Global, tokens: &mut Cursor<'_>, fits: bool) -> Result<Tree, 
     let (first, at) = first_name(alloc, tokens, fits)?;
     let more = dotted_names(alloc, tokens)?;
     let names = with_first(alloc, first, more)?;
-    Ok(Tree::path(Path { names, at }))
+    Ok(Tree::path(alloc, Path { names, at })?)
 }

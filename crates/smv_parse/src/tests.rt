@@ -167,11 +167,11 @@ fn operands(rt: HostRuntime) -> Result<(), Fail> {
     let mut tokens = Cursor::new(2, b"- 12 .. -3 4 5..6 7 8..9 cabin . r1.at");
     assert!(rt; matches!(sign(&mut tokens, true), Ok(-12)));
     assert!(rt; matches!(up_to(&mut tokens, true), Ok(-3)));
-    let Ok(four) = number(&mut tokens, true) else {
+    let Ok(four) = number(alloc, &mut tokens, true) else {
         panic!(rt; "a number");
     };
     assert!(rt; matches!(four.into_expr(), Expr::Number(4)));
-    let Ok(five_to_six) = number(&mut tokens, true) else {
+    let Ok(five_to_six) = number(alloc, &mut tokens, true) else {
         panic!(rt; "an interval");
     };
     assert!(rt;
@@ -180,11 +180,11 @@ fn operands(rt: HostRuntime) -> Result<(), Fail> {
             Expr::Pick(Choice::Between { low: 5, high: 6 })
         )
     );
-    let Ok(seven) = single(&mut tokens, true) else {
+    let Ok(seven) = single(alloc, &mut tokens, true) else {
         panic!(rt; "a number");
     };
     assert!(rt; matches!(seven.into_expr(), Expr::Number(7)));
-    let Ok(to_nine) = negative_interval(&mut tokens, true) else {
+    let Ok(to_nine) = negative_interval(alloc, &mut tokens, true) else {
         panic!(rt; "an interval below zero");
     };
     assert!(rt;
