@@ -1,0 +1,128 @@
+-- What the names of a module stand for, and the instances of a program.
+use Rattle.std.specs.Prelude.{ℕ, zero, suc, Bool, true, false, if◌then◌else◌, List, [], ◌∷◌, ◌++◌, length, map, Option, Some, None, codes, slice_get, find}
+use Rattle.std.specs.List.{flat_map}
+use Rattle.std.specs.Str.{bytes_eq}
+use Rattle.smv_ast.specs.PrintedExpr.{joined}
+use Rattle.smv_ast.specs.declared.syntax.Expr.{Expr}
+use Rattle.smv_ast.specs.declared.syntax.SmvType.{SmvType}
+use Rattle.smv_ast.specs.declared.program.Declared.{Declared}
+use Rattle.smv_ast.specs.declared.program.Declared.TheVariants.{Plain, Instance}
+use Rattle.smv_ast.specs.declared.program.Section.{Section}
+use Rattle.smv_ast.specs.declared.program.Section.TheVariants as section
+use Rattle.smv_ast.specs.declared.program.Module.{Module}
+use Rattle.smv_ast.specs.declared.program.Program.{Program}
+use Rattle.smv_meaning.specs.Value.{Name, and_then}
+
+-- ---- the names of a module
+
+-- what a name of a module stands for: a variable of a type, an instance of a module with its actuals, the right side of a
+-- DEFINE, or the formal of a number
+pub data Meaning : Type 0 where
+  Variable : SmvType → Meaning
+  Inner : Name → List Expr → Meaning
+  Defined : Expr → Meaning
+  Formal : ℕ → Meaning
+
+-- a name with what it stands for
+pub record Entry : Type 0 where
+  pub name : Name
+  pub meaning : Meaning
+
+-- what a declaration of a VAR section declares
+abbrev pub meaning_of : Declared → Meaning
+meaning_of (Plain type) = Variable type
+meaning_of (Instance called actuals) = Inner called actuals
+
+-- the names that a section declares, in the order of the text
+abbrev pub section_entries : Section → List Entry
+section_entries (section.Vars declarations) = map (λ d. record { name = d.name; meaning = meaning_of d.what }) declarations
+section_entries (section.Defines definitions) = map (λ d. record { name = d.name; meaning = Defined d.right }) definitions
+section_entries s = []
+
+-- the formals, numbered upwards
+abbrev pub formals_from : ℕ → List Name → List Entry
+formals_from k [] = []
+formals_from k (name ∷ more) = record { name = name; meaning = Formal k } ∷ formals_from (suc k) more
+
+-- the names that a module declares: its formals, then those of its sections, in the order of the text
+abbrev pub entries : Module → List Entry
+entries m = formals_from 0 m.formals ++ flat_map section_entries m.sections
+
+-- what a name stands for in a module; of two equal names the first counts
+abbrev pub what : Module → Name → Option Meaning
+what m name = and_then (find (λ e. bytes_eq e.name name) (entries m)) (λ e. Some e.meaning)
+
+-- ---- instances
+
+-- an instance: that of `main`, or the one that an outer instance declares under a name, with the name of its module
+pub data Place : Type 0 where
+  Main : Place
+  Within : Place → Name → Name → Place
+
+-- the name of an instance's module
+abbrev pub called_at : Place → Name
+called_at Main = codes "main"
+called_at (Within outer name called) = called
+
+-- the path of an instance from `main`
+abbrev pub path_of : Place → List Name
+path_of Main = []
+path_of (Within outer name called) = path_of outer ++ name ∷ []
+
+-- the text of an instance: `main`, or `main.` and its path
+abbrev pub place_text : Place → List ℕ
+place_text place = joined (codes ".") (codes "main" ∷ path_of place)
+
+-- the module, or one that declares nothing where there is none
+abbrev pub or_empty : Name → Option Module → Module
+or_empty name None = record { name = name; formals = []; sections = []; at = record { file = 0; at = 0 } }
+or_empty name (Some m) = m
+
+-- the first module of a name
+abbrev pub module_named : Program → Name → Module
+module_named program name = or_empty name (find (λ m. bytes_eq m.name name) program.modules)
+
+-- the module of an instance
+abbrev pub module_at : Program → Place → Module
+module_at program place = module_named program (called_at place)
+
+-- what a name stands for in an instance
+abbrev pub meaning_at : Program → Place → Name → Option Meaning
+meaning_at program place name = what (module_at program place) name
+
+-- the instance that an entry declares, if it does
+abbrev pub inner_of : Place → Name → Meaning → List Place
+inner_of place name (Inner called actuals) = Within place name called ∷ []
+inner_of place name m = []
+
+-- the instances that an instance declares, in the order of the text
+abbrev pub inner_places : Program → Place → List Place
+inner_places program place = flat_map (λ e. inner_of place e.name e.meaning) (entries (module_at program place))
+
+-- an instance, then each that it declares with all below it, down to a depth
+abbrev pub from_place : ℕ → Program → Place → List Place
+from_place zero program place = place ∷ []
+from_place (suc depth) program place = place ∷ flat_map (from_place depth program) (inner_places program place)
+
+-- the instances of a program, an instance before those that it declares; where no module leads back to itself, none lies
+-- deeper than there are modules
+abbrev pub instances : Program → List Place
+instances program = from_place (length program.modules) program Main
+
+-- ---- actuals
+
+-- the actuals of an instance's declaration
+abbrev pub actuals_of : Option Meaning → List Expr
+actuals_of (Some (Inner called actuals)) = actuals
+actuals_of m = []
+
+-- an expression with the instance in which it is read
+pub record Read : Type 0 where
+  pub place : Place
+  pub expr : Expr
+
+-- what the formal of a number stands for: an actual, read in the outer instance
+abbrev pub actual : Program → Place → ℕ → Option Read
+actual program Main k = None
+actual program (Within outer name called) k =
+    and_then (slice_get (actuals_of (meaning_at program outer name)) k) (λ a. Some (record { place = outer; expr = a }))

@@ -1,0 +1,96 @@
+-- What paths are worth in an instance and a state: variables by the state, DEFINEs and formals by what they stand for,
+-- each read in its own instance, and all else by the symbols of the program.
+use Rattle.std.specs.Prelude.{ℕ, Bool, true, false, List, [], ◌∷◌, ◌++◌, Option, Some, None}
+use Rattle.std.specs.List.{list_any}
+use Rattle.std.specs.Str.{bytes_eq}
+use Rattle.smv_ast.specs.declared.syntax.Expr.{Expr}
+use Rattle.smv_ast.specs.declared.syntax.SmvType.{SmvType}
+use Rattle.smv_ast.specs.declared.syntax.SmvType.TheVariants as type
+use Rattle.smv_ast.specs.declared.program.Declared.{Declared}
+use Rattle.smv_ast.specs.declared.program.Declared.TheVariants.{Plain}
+use Rattle.smv_ast.specs.declared.program.Section.{Section}
+use Rattle.smv_ast.specs.declared.program.Section.TheVariants as section
+use Rattle.smv_ast.specs.declared.program.Program.{Program}
+use Rattle.smv_meaning.specs.declared.value.Value.{Value}
+use Rattle.smv_meaning.specs.declared.value.Value.TheVariants.{Symbol}
+use Rattle.smv_meaning.specs.Value.{Name, and_then}
+use Rattle.smv_meaning.specs.Least.{least}
+use Rattle.smv_meaning.specs.Instances.{Meaning, Variable, Defined, Formal, Place, path_of, meaning_at, actual}
+use Rattle.smv_meaning.specs.Paths.{Spot, leads}
+use Rattle.smv_meaning.specs.Senses.{Reading, sense_of}
+
+-- a state gives each variable a value, by the variable's path from `main`
+abbrev pub State : Type 0
+State = List Name → Option Value
+
+-- ---- symbols
+
+-- whether a name stands in a type
+abbrev pub type_names : SmvType → Name → Bool
+type_names (type.Symbols names) name = list_any (λ n. bytes_eq n name) names
+type_names t name = false
+
+-- whether it stands in the type of what is declared
+abbrev pub declared_names : Declared → Name → Bool
+declared_names (Plain t) name = type_names t name
+declared_names d name = false
+
+-- whether it stands in a type of the section
+abbrev pub section_names : Section → Name → Bool
+section_names (section.Vars declarations) name = list_any (λ d. declared_names d.what name) declarations
+section_names s name = false
+
+-- whether a name stands in a type of the program
+abbrev pub is_symbol : Program → Name → Bool
+is_symbol program name = list_any (λ m. list_any (λ s. section_names s name) m.sections) program.modules
+
+-- a single name that stands in a type is a symbol
+abbrev pub symbol_of : Program → List Name → Option Value
+symbol_of program (name ∷ []) = elim (is_symbol program name) [ true ↦ Some (Symbol name) | false ↦ None ]
+symbol_of program path = None
+
+-- ---- what names are worth
+
+-- what the declared names of instances are worth
+abbrev pub Worth : Type 0
+Worth = Spot → Option Value
+
+-- what a path is worth: what the declaration is to which it leads; a path that leads to none may be a symbol
+abbrev pub worth_at : Program → Worth → List Name → Option Spot → Option Value
+worth_at program worth path None = symbol_of program path
+worth_at program worth path (Some spot) = worth spot
+
+-- what the paths of an instance are worth
+abbrev pub reading_by : Program → Worth → Place → Reading
+reading_by program worth place path = worth_at program worth path (leads program place path)
+
+-- the value of an expression that is read in an instance
+abbrev pub read_by : Program → Worth → Place → Expr → Option Value
+read_by program worth place e = let r : Reading = reading_by program worth place in (sense_of e).value r r
+
+-- what a name of this meaning is worth: a variable by the state, a DEFINE in its instance, a formal where its actual stands
+abbrev pub worth_of : Program → State → Worth → Place → Name → Meaning → Option Value
+worth_of program s worth place name (Variable t) = s (path_of place ++ name ∷ [])
+worth_of program s worth place name (Defined right) = read_by program worth place right
+worth_of program s worth place name (Formal k) = and_then (actual program place k) (λ r. read_by program worth r.place r.expr)
+worth_of program s worth place name m = None
+
+-- what a name is worth in a state, over what other names are
+abbrev pub worth_step : Program → State → Worth → Worth
+worth_step program s worth spot = and_then (meaning_at program spot.place spot.name) (worth_of program s worth spot.place spot.name)
+
+-- what each name is worth in a state
+abbrev pub worth_in : Program → State → Worth
+worth_in program s = least (worth_step program s)
+
+-- what the paths of an instance are worth in a state
+abbrev pub reading_in : Program → State → Place → Reading
+reading_in program s = reading_by program (worth_in program s)
+
+-- the value of an expression in an instance, in a state and the state after it
+abbrev pub value_in : Program → State → State → Place → Expr → Option Value
+value_in program s t place e = (sense_of e).value (reading_in program s place) (reading_in program t place)
+
+-- whether a value is one of those that an expression allows in an instance, in a state and the state after it
+abbrev pub allows_in : Program → State → State → Place → Expr → Value → Option Bool
+allows_in program s t place e = (sense_of e).allows (reading_in program s place) (reading_in program t place)

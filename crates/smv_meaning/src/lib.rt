@@ -1,0 +1,8 @@
+//! What models mean: values, instances, states, runs.
+#![tactic(auto)]
+
+mod run;
+mod value;
+
+pub use run::{Named, Run, RunAnswer, RunState};
+pub use value::{Value, first_value};
