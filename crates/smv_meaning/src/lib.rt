@@ -1,6 +1,7 @@
 //! What models mean: values, instances, states, runs.
 #![tactic(auto)]
 
+pub mod least;
 mod run;
 mod value;
 
