@@ -1,5 +1,5 @@
 -- What the names of a module stand for, and the instances of a program.
-use Rattle.std.specs.Prelude.{ℕ, zero, suc, Bool, true, false, if◌then◌else◌, List, [], ◌∷◌, ◌++◌, length, map, Option, Some, None, codes, slice_get, find}
+use Rattle.std.specs.Prelude.{ℕ, zero, suc, Bool, true, false, if◌then◌else◌, List, [], ◌∷◌, ◌++◌, length, nat_lt, map, Option, Some, None, codes, slice_get, find}
 use Rattle.std.specs.List.{flat_map}
 use Rattle.std.specs.Str.{bytes_eq}
 use Rattle.smv_ast.specs.PrintedExpr.{joined}
@@ -12,6 +12,7 @@ use Rattle.smv_ast.specs.declared.program.Section.TheVariants as section
 use Rattle.smv_ast.specs.declared.program.Module.{Module}
 use Rattle.smv_ast.specs.declared.program.Program.{Program}
 use Rattle.smv_meaning.specs.Value.{Name, and_then}
+use Rattle.smv_meaning.specs.Paths.{Spot, Meant, IsVariable, IsInstance, IsDefine, IsFormal, IsNothing}
 
 -- ---- the names of a module
 
@@ -90,22 +91,30 @@ module_at program place = module_named program (called_at place)
 abbrev pub meaning_at : Program → Place → Name → Option Meaning
 meaning_at program place name = what (module_at program place) name
 
+-- how many instances stand around an instance
+abbrev pub depth_of : Place → ℕ
+depth_of Main = 0
+depth_of (Within outer name called) = suc (depth_of outer)
+
+-- whether there are instances below one: where no module leads back to itself, none lies deeper than there are modules
+abbrev pub goes_deeper : Program → Place → Bool
+goes_deeper program place = nat_lt (depth_of place) (length program.modules)
+
 -- the instance that an entry declares, if it does
-abbrev pub inner_of : Place → Name → Meaning → List Place
-inner_of place name (Inner called actuals) = Within place name called ∷ []
-inner_of place name m = []
+abbrev pub inner_of : Program → Place → Name → Meaning → List Place
+inner_of program place name (Inner called actuals) = if goes_deeper program place then Within place name called ∷ [] else []
+inner_of program place name m = []
 
 -- the instances that an instance declares, in the order of the text
 abbrev pub inner_places : Program → Place → List Place
-inner_places program place = flat_map (λ e. inner_of place e.name e.meaning) (entries (module_at program place))
+inner_places program place = flat_map (λ e. inner_of program place e.name e.meaning) (entries (module_at program place))
 
 -- an instance, then each that it declares with all below it, down to a depth
 abbrev pub from_place : ℕ → Program → Place → List Place
 from_place zero program place = place ∷ []
 from_place (suc depth) program place = place ∷ flat_map (from_place depth program) (inner_places program place)
 
--- the instances of a program, an instance before those that it declares; where no module leads back to itself, none lies
--- deeper than there are modules
+-- the instances of a program, an instance before those that it declares
 abbrev pub instances : Program → List Place
 instances program = from_place (length program.modules) program Main
 
@@ -116,13 +125,19 @@ abbrev pub actuals_of : Option Meaning → List Expr
 actuals_of (Some (Inner called actuals)) = actuals
 actuals_of m = []
 
--- an expression with the instance in which it is read
-pub record Read : Type 0 where
-  pub place : Place
-  pub expr : Expr
-
 -- what the formal of a number stands for: an actual, read in the outer instance
-abbrev pub actual : Program → Place → ℕ → Option Read
-actual program Main k = None
-actual program (Within outer name called) k =
-    and_then (slice_get (actuals_of (meaning_at program outer name)) k) (λ a. Some (record { place = outer; expr = a }))
+abbrev pub formal_at : Program → Place → ℕ → Meant Place
+formal_at program Main k = IsNothing
+formal_at program (Within outer name called) k =
+    elim (slice_get (actuals_of (meaning_at program outer name)) k) [ None ↦ IsNothing | Some a ↦ IsFormal outer a ]
+
+-- what a name of this meaning is in an instance
+abbrev pub meant_by : Program → Place → Name → Meaning → Meant Place
+meant_by program place name (Variable t) = IsVariable
+meant_by program place name (Inner called actuals) = if goes_deeper program place then IsInstance (Within place name called) else IsNothing
+meant_by program place name (Defined right) = IsDefine right
+meant_by program place name (Formal k) = formal_at program place k
+
+-- what the names of the instances of a program are
+abbrev pub meant_at : Program → Spot Place → Option (Meant Place)
+meant_at program spot = and_then (meaning_at program spot.place spot.name) (λ m. Some (meant_by program spot.place spot.name m))

@@ -1,7 +1,8 @@
 pub mod Value
 pub mod Least
-pub mod Instances
 pub mod Paths
+pub mod Instances
+pub mod Known
 pub mod Senses
 pub mod Values
 pub mod Runs

@@ -15,8 +15,8 @@ use Rattle.smv_meaning.specs.declared.value.Value.{Value}
 use Rattle.smv_meaning.specs.declared.value.Value.TheVariants.{Symbol}
 use Rattle.smv_meaning.specs.Value.{Name, and_then}
 use Rattle.smv_meaning.specs.Least.{least}
-use Rattle.smv_meaning.specs.Instances.{Meaning, Variable, Defined, Formal, Place, path_of, meaning_at, actual}
-use Rattle.smv_meaning.specs.Paths.{Spot, leads}
+use Rattle.smv_meaning.specs.Paths.{Spot, Meant, IsVariable, IsDefine, IsFormal, leads}
+use Rattle.smv_meaning.specs.Instances.{Place, path_of, meant_at}
 use Rattle.smv_meaning.specs.Senses.{Reading, sense_of}
 
 -- a state gives each variable a value, by the variable's path from `main`
@@ -52,40 +52,48 @@ symbol_of program path = None
 -- ---- what names are worth
 
 -- what the declared names of instances are worth
-abbrev pub Worth : Type 0
-Worth = Spot → Option Value
+abbrev pub Worth : Type 0 → Type 0
+Worth P = Spot P → Option Value
 
 -- what a path is worth: what the declaration is to which it leads; a path that leads to none may be a symbol
-abbrev pub worth_at : Program → Worth → List Name → Option Spot → Option Value
-worth_at program worth path None = symbol_of program path
-worth_at program worth path (Some spot) = worth spot
+abbrev pub worth_at : {P : Type 0} → Reading → Worth P → List Name → Option (Spot P) → Option Value
+worth_at symbols worth path None = symbols path
+worth_at symbols worth path (Some spot) = worth spot
 
--- what the paths of an instance are worth
-abbrev pub reading_by : Program → Worth → Place → Reading
-reading_by program worth place path = worth_at program worth path (leads program place path)
+-- over what the names of the instances are, and the symbols
+module _ {P : Type 0} (meant : Spot P → Option (Meant P)) (symbols : Reading) where
+  -- what the paths of an instance are worth
+  abbrev pub reading_by : Worth P → P → Reading
+  reading_by worth place path = worth_at symbols worth path (leads meant place path)
 
--- the value of an expression that is read in an instance
-abbrev pub read_by : Program → Worth → Place → Expr → Option Value
-read_by program worth place e = let r : Reading = reading_by program worth place in (sense_of e).value r r
+  -- the value of an expression that is read in an instance
+  abbrev pub read_by : Worth P → P → Expr → Option Value
+  read_by worth place e = (sense_of e).value (reading_by worth place) (reading_by worth place)
 
--- what a name of this meaning is worth: a variable by the state, a DEFINE in its instance, a formal where its actual stands
-abbrev pub worth_of : Program → State → Worth → Place → Name → Meaning → Option Value
-worth_of program s worth place name (Variable t) = s (path_of place ++ name ∷ [])
-worth_of program s worth place name (Defined right) = read_by program worth place right
-worth_of program s worth place name (Formal k) = and_then (actual program place k) (λ r. read_by program worth r.place r.expr)
-worth_of program s worth place name m = None
+  -- what a name is worth: a variable by the state, a DEFINE in its own instance, a formal where its actual stands
+  abbrev pub worth_of : Worth P → Worth P → Spot P → Meant P → Option Value
+  worth_of state worth spot IsVariable = state spot
+  worth_of state worth spot (IsDefine right) = read_by worth spot.place right
+  worth_of state worth spot (IsFormal place actual) = read_by worth place actual
+  worth_of state worth spot m = None
 
--- what a name is worth in a state, over what other names are
-abbrev pub worth_step : Program → State → Worth → Worth
-worth_step program s worth spot = and_then (meaning_at program spot.place spot.name) (worth_of program s worth spot.place spot.name)
+  -- what a name is worth in a state, over what other names are
+  abbrev pub worth_step : Worth P → Worth P → Worth P
+  worth_step state worth spot = and_then (meant spot) (worth_of state worth spot)
 
--- what each name is worth in a state
-abbrev pub worth_in : Program → State → Worth
-worth_in program s = least (worth_step program s)
+  -- what each name is worth in a state; what reads itself is worth nothing
+  abbrev pub worth_in : Worth P → Worth P
+  worth_in state = least (worth_step state)
+
+-- ---- the values of an expression
+
+-- the value that a state gives a variable of an instance
+abbrev pub variable_in : State → Worth Place
+variable_in s spot = s (path_of spot.place ++ spot.name ∷ [])
 
 -- what the paths of an instance are worth in a state
 abbrev pub reading_in : Program → State → Place → Reading
-reading_in program s = reading_by program (worth_in program s)
+reading_in program s = let worth : Worth Place = worth_in (meant_at program) (symbol_of program) (variable_in s) in reading_by (meant_at program) (symbol_of program) worth
 
 -- the value of an expression in an instance, in a state and the state after it
 abbrev pub value_in : Program → State → State → Place → Expr → Option Value
