@@ -1,2 +1,4 @@
 pub mod LeastLemmas
+pub mod SenseLemmas
+pub mod Growing
 mod Examples

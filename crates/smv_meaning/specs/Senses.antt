@@ -34,10 +34,10 @@ pub record BranchSense : Type 0 where
 abbrev pub single : Valued → Sense
 single meant = record { value = meant; allows = λ now after v. and_then (meant now after) (λ w. Some (same v w)) }
 
--- whether one of the parts allows a value
-abbrev pub one_allows : List (Option Bool) → Option Bool
-one_allows [] = Some false
-one_allows (part ∷ more) = of_both (λ b c. Some (b || c)) part (one_allows more)
+-- whether one of the parts allows a value; none where a name of any of them stands for nothing
+abbrev pub parts_allow : Reading → Reading → Value → List Sense → Option Bool
+parts_allow now after v [] = Some false
+parts_allow now after v (part ∷ more) = of_both (λ b c. Some (b || c)) (part.allows now after v) (parts_allow now after v more)
 
 -- the branch that a case takes: the first whose condition is true, else the last
 abbrev pub taken : {B : Type 0} → (B → Option Bool) → List B → Option B
@@ -53,9 +53,17 @@ holds_in now after branch = and_then (branch.cond.value now after) truth
 abbrev pub taken_in : Reading → Reading → List BranchSense → Option BranchSense
 taken_in now after = taken (holds_in now after)
 
+-- the value of the branch that a case takes
+abbrev pub case_value : Reading → Reading → List BranchSense → Option Value
+case_value now after branches = and_then (taken_in now after branches) (λ branch. branch.value.value now after)
+
+-- whether that branch allows a value
+abbrev pub case_allows : Reading → Reading → List BranchSense → Value → Option Bool
+case_allows now after branches v = and_then (taken_in now after branches) (λ branch. branch.value.allows now after v)
+
 -- the values of a choice: those of its parts, or the numbers from low to high
 abbrev pub choice_sense : Choice-F Allowed Sense BranchSense → Allowed
-choice_sense (Choice-F.Each parts) = λ now after v. one_allows (map (λ part. part.allows now after v) parts)
+choice_sense (Choice-F.Each parts) = λ now after v. parts_allow now after v parts
 choice_sense (Choice-F.Between low high) = λ now after v. Some (in_range low high v)
 
 -- the sense of an expression, of those of its parts: `next(a)` reads the names of `a` after the step, and a choice has no

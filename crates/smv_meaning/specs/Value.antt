@@ -109,33 +109,48 @@ abbrev pub remainder : ℤ → ℤ → Option Value
 remainder (pos m) (pos (suc n)) = Some (Number (pos (m % suc n)))
 remainder m n = None
 
--- an operator on two numbers
-abbrev pub on_numbers : (ℤ → ℤ → Option Value) → Value → Value → Option Value
-on_numbers make (Number m) (Number n) = make m n
-on_numbers make v w = None
+-- what an operator makes of two numbers
+abbrev pub of_numbers : Op → ℤ → ℤ → Option Value
+of_numbers op.Add m n = whole (m +ℤ n)
+of_numbers op.Sub m n = whole (m -ℤ n)
+of_numbers op.Mul m n = whole (m *ℤ n)
+of_numbers op.Mod m n = remainder m n
+of_numbers op.Lt m n = Some (Boolean (int_lt m n))
+of_numbers op.Gt m n = Some (Boolean (int_lt n m))
+of_numbers op.Le m n = Some (Boolean (int_le m n))
+of_numbers op.Ge m n = Some (Boolean (int_le n m))
+of_numbers o m n = None
 
--- an operator on two truth values
-abbrev pub on_truths : (Bool → Bool → Bool) → Value → Value → Option Value
-on_truths make v w = of_both (λ b c. Some (Boolean (make b c))) (truth v) (truth w)
+-- what an operator makes of two truth values
+abbrev pub of_truths : Op → Bool → Bool → Option Value
+of_truths op.And b c = Some (Boolean (b && c))
+of_truths op.Or b c = Some (Boolean (b || c))
+of_truths op.Xor b c = Some (Boolean (not (bool_eq b c)))
+of_truths op.Xnor b c = Some (Boolean (bool_eq b c))
+of_truths op.Iff b c = Some (Boolean (bool_eq b c))
+of_truths op.Implies b c = Some (Boolean (not b || c))
+of_truths o b c = None
+
+-- an operator on numbers, at two values
+abbrev pub on_numbers : Op → Value → Value → Option Value
+on_numbers o (Number m) (Number n) = of_numbers o m n
+on_numbers o v w = None
+
+-- an operator on truth values, at two values
+abbrev pub on_truths : Op → Value → Value → Option Value
+on_truths o v w = of_both (of_truths o) (truth v) (truth w)
 
 -- what an operator makes of two values
 abbrev pub operate : Op → Value → Value → Option Value
-operate op.Add = on_numbers (λ m n. whole (m +ℤ n))
-operate op.Sub = on_numbers (λ m n. whole (m -ℤ n))
-operate op.Mul = on_numbers (λ m n. whole (m *ℤ n))
-operate op.Mod = on_numbers remainder
-operate op.Lt = on_numbers (λ m n. Some (Boolean (int_lt m n)))
-operate op.Gt = on_numbers (λ m n. Some (Boolean (int_lt n m)))
-operate op.Le = on_numbers (λ m n. Some (Boolean (int_le m n)))
-operate op.Ge = on_numbers (λ m n. Some (Boolean (int_le n m)))
-operate op.Eq = λ v w. Some (Boolean (same v w))
-operate op.Ne = λ v w. Some (Boolean (not (same v w)))
-operate op.And = on_truths (λ b c. b && c)
-operate op.Or = on_truths (λ b c. b || c)
-operate op.Xor = on_truths (λ b c. not (bool_eq b c))
-operate op.Xnor = on_truths bool_eq
-operate op.Iff = on_truths bool_eq
-operate op.Implies = on_truths (λ b c. not b || c)
+operate op.Eq v w = Some (Boolean (same v w))
+operate op.Ne v w = Some (Boolean (not (same v w)))
+operate op.And v w = on_truths op.And v w
+operate op.Or v w = on_truths op.Or v w
+operate op.Xor v w = on_truths op.Xor v w
+operate op.Xnor v w = on_truths op.Xnor v w
+operate op.Iff v w = on_truths op.Iff v w
+operate op.Implies v w = on_truths op.Implies v w
+operate o v w = on_numbers o v w
 
 -- a number with its sign turned
 abbrev pub negated : Value → Option Value

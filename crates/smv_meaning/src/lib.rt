@@ -1,7 +1,9 @@
 //! What models mean: values, instances, states, runs.
 #![tactic(auto)]
 
+pub mod evaluation;
 pub mod least;
+mod operators;
 mod run;
 mod value;
 
