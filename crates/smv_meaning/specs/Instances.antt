@@ -7,6 +7,8 @@ use Rattle.smv_ast.specs.declared.syntax.Expr.{Expr}
 use Rattle.smv_ast.specs.declared.syntax.SmvType.{SmvType}
 use Rattle.smv_ast.specs.declared.program.Declared.{Declared}
 use Rattle.smv_ast.specs.declared.program.Declared.TheVariants.{Plain, Instance}
+use Rattle.smv_ast.specs.declared.program.Declaration.{Declaration}
+use Rattle.smv_ast.specs.declared.program.Definition.{Definition}
 use Rattle.smv_ast.specs.declared.program.Section.{Section}
 use Rattle.smv_ast.specs.declared.program.Section.TheVariants as section
 use Rattle.smv_ast.specs.declared.program.Module.{Module}
@@ -34,10 +36,18 @@ abbrev pub meaning_of : Declared → Meaning
 meaning_of (Plain type) = Variable type
 meaning_of (Instance called actuals) = Inner called actuals
 
+-- the entry of a declaration
+abbrev pub declaration_entry : Declaration → Entry
+declaration_entry d = record { name = d.name; meaning = meaning_of d.what }
+
+-- the entry of a definition
+abbrev pub definition_entry : Definition → Entry
+definition_entry d = record { name = d.name; meaning = Defined d.right }
+
 -- the names that a section declares, in the order of the text
 abbrev pub section_entries : Section → List Entry
-section_entries (section.Vars declarations) = map (λ d. record { name = d.name; meaning = meaning_of d.what }) declarations
-section_entries (section.Defines definitions) = map (λ d. record { name = d.name; meaning = Defined d.right }) definitions
+section_entries (section.Vars declarations) = map declaration_entry declarations
+section_entries (section.Defines definitions) = map definition_entry definitions
 section_entries s = []
 
 -- the formals, numbered upwards

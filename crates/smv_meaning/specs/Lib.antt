@@ -6,3 +6,4 @@ pub mod Known
 pub mod Senses
 pub mod Values
 pub mod Runs
+pub mod Entries

@@ -3,8 +3,10 @@
 
 pub mod evaluation;
 pub mod least;
+mod entries;
 mod operators;
 mod run;
+mod scope;
 mod value;
 
 pub use run::{Named, Run, RunAnswer, RunState};
