@@ -9,7 +9,7 @@ use Rattle.smv_meaning.specs.declared.entries.Entry.{Entry as Held}
 use Rattle.smv_meaning.specs.declared.entries.Meaning.{Meaning as HeldMeaning}
 use Rattle.smv_meaning.specs.declared.entries.Meaning.TheVariants as held
 use Rattle.smv_meaning.specs.Instances.{Meaning, Variable, Inner, Defined, Formal, Entry, entries}
-use Rattle.smv_meaning.specs.Value.{Name}
+use Rattle.smv_meaning.specs.Value.{Name, and_then}
 
 -- what a held meaning says
 abbrev pub meaning_seen : HeldMeaning → Meaning
@@ -56,3 +56,7 @@ entries_in scopes name = entries_found (find (λ s. bytes_eq s.name name) scopes
 abbrev pub first_place : Name → List Entry → Option ℕ
 first_place name [] = None
 first_place name (e ∷ more) = if bytes_eq e.name name then Some 0 else option_map suc (first_place name more)
+
+-- what a name stands for among these entries; of two equal names the first counts
+abbrev pub meaning_among : List Entry → Name → Option Meaning
+meaning_among es name = and_then (find (λ e. bytes_eq e.name name) es) (λ e. Some e.meaning)

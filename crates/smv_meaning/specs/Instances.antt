@@ -135,19 +135,26 @@ abbrev pub actuals_of : Option Meaning → List Expr
 actuals_of (Some (Inner called actuals)) = actuals
 actuals_of m = []
 
--- what the formal of a number stands for: an actual, read in the outer instance
+-- what the formal of a number is where an instance is declared so: an actual, read in the outer instance
+abbrev pub formal_by : {P : Type 0} → P → Option Meaning → ℕ → Meant P
+formal_by outer m k = elim (slice_get (actuals_of m) k) [ None ↦ IsNothing | Some a ↦ IsFormal outer a ]
+
+-- what the formal of a number is in an instance
 abbrev pub formal_at : Program → Place → ℕ → Meant Place
 formal_at program Main k = IsNothing
-formal_at program (Within outer name called) k =
-    elim (slice_get (actuals_of (meaning_at program outer name)) k) [ None ↦ IsNothing | Some a ↦ IsFormal outer a ]
+formal_at program (Within outer name called) k = formal_by outer (meaning_at program outer name) k
 
--- what a name of this meaning is in an instance
-abbrev pub meant_by : Program → Place → Name → Meaning → Meant Place
-meant_by program place name (Variable t) = IsVariable
-meant_by program place name (Inner called actuals) = if goes_deeper program place then IsInstance (Within place name called) else IsNothing
-meant_by program place name (Defined right) = IsDefine right
-meant_by program place name (Formal k) = formal_at program place k
+-- what a name of a meaning is: of an instance there is one where it goes deeper
+abbrev pub meant_by : {P : Type 0} → Bool → (Name → P) → (ℕ → Meant P) → Meaning → Meant P
+meant_by deeper inner formal (Variable t) = IsVariable
+meant_by deeper inner formal (Inner called actuals) = if deeper then IsInstance (inner called) else IsNothing
+meant_by deeper inner formal (Defined right) = IsDefine right
+meant_by deeper inner formal (Formal k) = formal k
+
+-- what a name of a meaning is in an instance
+abbrev pub meant_in : Program → Place → Name → Meaning → Meant Place
+meant_in program place name m = meant_by (goes_deeper program place) (Within place name) (formal_at program place) m
 
 -- what the names of the instances of a program are
 abbrev pub meant_at : Program → Spot Place → Option (Meant Place)
-meant_at program spot = and_then (meaning_at program spot.place spot.name) (λ m. Some (meant_by program spot.place spot.name m))
+meant_at program spot = and_then (meaning_at program spot.place spot.name) (λ m. Some (meant_in program spot.place spot.name m))

@@ -7,3 +7,4 @@ pub mod Senses
 pub mod Values
 pub mod Runs
 pub mod Entries
+pub mod Tree

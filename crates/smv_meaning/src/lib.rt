@@ -7,6 +7,7 @@ mod entries;
 mod operators;
 mod run;
 mod scope;
+mod tree;
 mod value;
 
 pub use run::{Named, Run, RunAnswer, RunState};

@@ -1,10 +1,10 @@
 //! The modules of a program with their names, looked up by name.
 
-ghost use Rattle.std.specs.Prelude.{◌≡◌, ℕ, IfOk, map, length, ◌<◌, OnSome};
-ghost use Rattle.std.specs.Str.{bytes_eq};
-ghost use Rattle.smv_meaning.specs.Entries.{all_seen, scope_seen, scopes_of as scopes_of_program, entries_in, first_place};
+ghost use Rattle.std.specs.Prelude.{◌≡◌, ℕ, IfOk, map, length, ◌<◌, IfSome};
+ghost use Rattle.std.specs.Option.{option_map};
+ghost use Rattle.smv_meaning.specs.Entries.{meaning_seen, all_seen, meaning_among, scope_seen, scopes_of as scopes_of_program, entries_in, first_place};
 
-use crate::entries::{Entry, entries_of};
+use crate::entries::{Entry, Meaning, entries_of};
 use smv_ast::{List, NoMemory, Program, Text};
 use std::alloc::Global;
 
@@ -42,10 +42,22 @@ pub fn entries_named<'s, 'a>(scopes: &'s [Scope<'a>], name: &str) -> &'s [Entry<
     &[]
 }
 
+/// What a name stands for among these entries; the first of that name counts.
+pub fn meaning_named<'a>(entries: &[Entry<'a>], name: &str) -> Option<Meaning<'a>>
+    ensures { option_map meaning_seen result ≡ meaning_among (all_seen entries.now) name.now }
+{
+    for entry in entries {
+        if entry.name.as_str() == name {
+            return Some(entry.meaning);
+        }
+    }
+    None
+}
+
 /// Where the first of these entries with this name stands.
 pub fn place_of(entries: &[Entry], name: &str) -> Option<usize>
-    ensures at { result ≡ first_place name.now (all_seen entries.now) }
-    ensures within { OnSome result (0 < length entries.now) }
+    ensures place { result ≡ first_place name.now (all_seen entries.now) }
+    ensures within { IfSome result (λ k. k < length entries.now) }
 {
     let mut place = 0;
     for entry in entries {
