@@ -1,7 +1,7 @@
 //! The instances of a program by number, each before those that it declares, and what their names are.
 
-ghost use Rattle.std.specs.Prelude.{◌≡◌, ◌<◌, ◌++◌, [], ◌∷◌, length, OnOk, IfOk, slice_get, Some, map, find, if◌then◌else◌, nat_lt};
-ghost use Rattle.std.specs.Option.{option_map};
+ghost use Rattle.std.specs.Prelude.{◌≡◌, ◌<◌, ◌++◌, [], ◌∷◌, length, OnOk, IfOk, IfSome, OnSome, Some, true, slice_get, map};
+ghost use Rattle.std.specs.Option.{option_map, option_copied};
 ghost use Rattle.smv_ast.specs.declared.program.Program.{Program};
 ghost use Rattle.smv_meaning.specs.Value.{and_then};
 ghost use Rattle.smv_meaning.specs.Instances as spec;
@@ -10,7 +10,7 @@ ghost use Rattle.smv_meaning.specs.Tree as tree;
 
 use crate::entries::{Entry, Meaning};
 use crate::scope::{Scope, entries_named, meaning_named};
-use smv_ast::{Expr, List, NoMemory, Text};
+use smv_ast::{Expr, List, NoMemory, Program, Text};
 use std::alloc::Global;
 
 /// Where an instance is declared: the number of its outer instance, its name there, and the name of
@@ -72,4 +72,96 @@ fn formal_of<'a>(rows: &[Row<'a>], link: Link<'a>, k: usize) -> Meant<'a>
 {
     let outer = rows[link.outer].entries;
     formal_by(link.outer, meaning_named(outer, link.name.as_str()), k)
+}
+
+/// What a name of this meaning is in an instance. An instance that it declares is to have the number
+/// `next`, if instances go `deeper`.
+fn meant_here<'a>(
+    rows: &[Row<'a>],
+    row: Row<'a>,
+    deeper: bool,
+    next: usize,
+    meaning: Meaning<'a>,
+) -> Meant<'a>
+    requires { IfSome row.link (λ link. link.outer < length rows.now) }
+    ensures { tree.meant_seen result ≡ tree.meant_here rows.now row.entry deeper next (meaning_seen meaning.entry) }
+{
+    match meaning {
+        Meaning::Variable(_) => Meant::Variable,
+        Meaning::Inner { .. } => {
+            if deeper {
+                Meant::Instance(next)
+            } else {
+                Meant::Nothing
+            }
+        }
+        Meaning::Defined(right) => Meant::Define(right),
+        Meaning::Formal(k) => match row.link {
+            Some(link) => formal_of(rows, link, k),
+            None => Meant::Nothing,
+        },
+    }
+}
+
+/// The name of the module of the instance that a name declares, if it does and instances go
+/// `deeper`.
+fn called_by<'a>(deeper: bool, meaning: Meaning<'a>) -> Option<&'a Text>
+    ensures called { option_copied result ≡ tree.called_by deeper (meaning_seen meaning.entry) }
+    ensures deeper { OnSome result (deeper ≡ true) }
+{
+    match meaning {
+        Meaning::Inner { called, .. } => {
+            if deeper {
+                Some(called)
+            } else {
+                None
+            }
+        }
+        _ => None,
+    }
+}
+
+/// Takes the next name of an instance into the table, and the instance that it declares, if it does.
+fn grow<'a>(
+    program: &Program,
+    scopes: &'a [Scope<'a>],
+    rows: &mut List<Row<'a>>,
+    slots: &mut List<Slot<'a>>,
+    r: usize,
+    row: Row<'a>,
+    entry: Entry<'a>,
+) -> Result<(), NoMemory>
+    requires scopes { map scope_seen scopes.now ≡ scopes_of program.now }
+    requires rows { tree.RightRows program.now rows.old }
+    requires row { slice_get rows.old r ≡ Some row }
+    ensures extends { OnOk result (tree.Extends rows.old rows.new) }
+    ensures rows { OnOk result (tree.RightRows program.now rows.new) }
+    ensures slots { OnOk result (tree.AddsSlot program.now rows.new r (seen entry.entry) slots.old slots.new) }
+{
+    let deeper = row.depth < program.modules.len();
+    let Some(called) = called_by(deeper, entry.meaning) else {
+        let meant = meant_here(rows.as_slice(), row, deeper, rows.len(), entry.meaning);
+        slots.push(Slot {
+            row: r,
+            name: entry.name,
+            meant,
+        })?;
+        return Ok(());
+    };
+    slots.push(Slot {
+        row: r,
+        name: entry.name,
+        meant: Meant::Instance(rows.len()),
+    })?;
+    let link = Link {
+        outer: r,
+        name: entry.name,
+        called,
+    };
+    rows.push(Row {
+        link: Some(link),
+        entries: entries_named(scopes, called.as_str()),
+        depth: row.depth + 1,
+    })?;
+    Ok(())
 }
