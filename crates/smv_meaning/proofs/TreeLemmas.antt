@@ -13,9 +13,10 @@ use Rattle.smv_meaning.specs.declared.tree.Link.{Link}
 use Rattle.smv_meaning.specs.declared.tree.Slot.{Slot}
 use Rattle.smv_meaning.specs.Value.{Name, and_then}
 use Rattle.smv_meaning.specs.Paths.{Meant, IsVariable, IsInstance, IsDefine, IsFormal, IsNothing}
-use Rattle.smv_meaning.specs.Entries.{all_seen, Scope, scope_of, scopes_of, entries_in, entries_found, meaning_among}
+use Rattle.smv_meaning.specs.declared.entries.Entry.{Entry as Held}
+use Rattle.smv_meaning.specs.Entries.{all_seen, seen, Scope, scope_of, scopes_of, entries_in, entries_found, meaning_among}
 use Rattle.smv_meaning.specs.Instances.{Meaning, Variable, Inner, Defined, Formal, Entry, Place, Main, Within, entries, module_named, module_at, meaning_at, or_empty, called_at, depth_of, goes_deeper, formal_by, formal_at, meant_by, meant_in, actuals_of}
-use Rattle.smv_meaning.specs.Tree.{meant_seen, place_at, next_place, places, entries_at, formal_linked, placed, InRange, formal_in, meant_here, RightRow, RightRows, RightSlot, Extends, AddsSlot, RightUpTo, RightSlots, called_by}
+use Rattle.smv_meaning.specs.Tree.{meant_seen, place_at, next_place, places, entries_at, formal_linked, placed, InRange, formal_in, meant_here, RightRow, RightRows, RightSlot, Extends, AddsSlot, RightUpTo, RightSlots, SlotsBehind, called_by}
 
 pub entries_at_index : (rows : List Row) (k : ℕ) (row : Row) → k < length rows → row ≡ get_or rows k row → entries_at rows k ≡ all_seen row.entries.now
 entries_at_index [] k row h e = absurd (omega arith)
@@ -266,3 +267,103 @@ child_new program rows r row child link name right e c o d n g = record {
     at = ap (next_place (places rows)) c ∙ ap (λ x. Within (place_at (places rows) x) link.name.now link.called.now) o
     deep : row.depth ≡ depth_of (place_at (places rows) r) → row.depth + 1 ≡ suc (depth_of (place_at (places rows) r))
     deep e = omega arith
+
+-- ---- all names of an instance
+
+pub extends_more : (a b c : List Row) → Extends a b → Extends b c → Extends a c
+extends_more a b c h k = (h.0 ++ k.0, k.1 ∙ (ap (λ x. x ++ k.0) h.1 ∙ append_assoc a h.0 k.0))
+
+pub extends_none : (a : List Row) → Extends a a
+extends_none a = ([], sym (append-nil a))
+
+pub extends_length : (a b : List Row) → Extends a b → length a ≤ length b
+extends_length a b h = omega (arith, ap length h.1, length-append a h.0)
+
+pub get_seen : (es : List Held) (k : ℕ) (e : Held) → k < length es → e ≡ get_or es k e → slice_get (all_seen es) k ≡ Some (seen e)
+get_seen [] k e h g = absurd (omega arith)
+get_seen (x ∷ es) zero e h g = ap (λ y. Some (seen y)) (sym g)
+get_seen (x ∷ es) (suc k) e h g = get_seen es k e (omega arith) g
+
+pub get_none : {A : Type 0} (xs : List A) (k : ℕ) → slice_get xs k ≡ None → length xs ≤ k
+get_none [] k e = omega arith
+get_none (x ∷ xs) zero e = cc
+get_none (x ∷ xs) (suc k) e = omega (arith, get_none xs k e)
+
+pub behind_more : (n : ℕ) (old slots slots' : List Slot) (slot : Slot) → SlotsBehind n old slots → slots' ≡ slots ++ slot ∷ [] → SlotsBehind (n + 1) old slots'
+behind_more n old slots slots' slot h e = (h.0 ++ slot ∷ [], e ∙ (ap (λ x. x ++ slot ∷ []) h.1 ∙ append_assoc old h.0 (slot ∷ [])), omega (arith, length-append h.0 (slot ∷ []), h.2))
+
+pub behind_length : (n : ℕ) (old slots : List Slot) → SlotsBehind n old slots → length slots ≡ length old + n
+behind_length n old slots h = omega (arith, ap length h.1, length-append old h.0, h.2)
+
+below_or : (a b : ℕ) → a < b + 1 → (a < b) ⊎ (a ≡ b)
+below_or zero zero h = inr refl
+below_or zero (suc b) h = inl (omega arith)
+below_or (suc a) zero h = absurd (omega arith)
+below_or (suc a) (suc b) h = elim (below_or a b (omega arith)) [ inl g ↦ inl (omega arith) | inr g ↦ inr (ap suc g) ]
+
+abbrev At : Program → List Row → List Slot → ℕ → ℕ → Entry → Type 0
+At program rows slots r n e = (slot : Slot) × (slice_get slots n ≡ Some slot) × RightSlot program rows r e slot
+
+at_kept : (program : Program) (rows more : List Row) (slots behind : List Slot) (r n : ℕ) (e : Entry) → r < length rows → At program rows slots r n e → At program (rows ++ more) (slots ++ behind) r n e
+at_kept program rows more slots behind r n e h a = (a.0, get_append slots behind n a.0 a.1, slot_kept program rows more r e a.0 h a.2)
+
+-- slots and rows that come behind keep what is right
+pub upto_kept : (program : Program) (rows rows' : List Row) (slots slots' behind : List Slot) (r first : ℕ) (es : List Entry) (n : ℕ) → Extends rows rows' → slots' ≡ slots ++ behind → r < length rows → RightUpTo program rows slots r first es n → RightUpTo program rows' slots' r first es n
+upto_kept program rows rows' slots slots' behind r first es n x s h right k e below g =
+    subst (λ (ss : List Slot). At program rows' ss r (first + k) e) (sym s) (subst (λ (rs : List Row). At program rs (slots ++ behind) r (first + k) e) (sym x.1) (at_kept program rows x.0 slots behind r (first + k) e h (right k e below g)))
+
+pub upto_more : (program : Program) (rows rows' : List Row) (slots slots' : List Slot) (r first : ℕ) (es : List Entry) (n : ℕ) (e : Entry) → Extends rows rows' → AddsSlot program rows' r e slots slots' → length slots ≡ first + n → slice_get es n ≡ Some e → r < length rows →
+    RightUpTo program rows slots r first es n → RightUpTo program rows' slots' r first es (n + 1)
+upto_more program rows rows' slots slots' r first es n e x a l g h right k e' below g' =
+    elim (below_or k n below) [
+      inl b ↦ upto_kept program rows rows' slots slots' (a.0 ∷ []) r first es n x a.1 h right k e' b g'
+    | inr b ↦ last k e' b g'
+    ]
+  where
+    here : At program rows' slots' r (first + n) e
+    here = (a.0, subst (λ (ss : List Slot). slice_get ss (first + n) ≡ Some a.0) (sym a.1) (get_last slots a.0 (first + n) (sym l)), a.2)
+    last : (k : ℕ) (e' : Entry) → k ≡ n → slice_get es k ≡ Some e' → At program rows' slots' r (first + k) e'
+    last k e' b g' =
+        let s : e ≡ e' = cc (subst (λ (x : ℕ). slice_get es x ≡ Some e') b g') in
+        subst (λ (x : ℕ). At program rows' slots' r (first + x) e') (sym b) (subst (λ (y : Entry). At program rows' slots' r (first + n) y) s here)
+
+-- ---- all instances
+
+pub entries_at_get : (rows : List Row) (k : ℕ) (row : Row) → slice_get rows k ≡ Some row → entries_at rows k ≡ all_seen row.entries.now
+entries_at_get rows k row e = ap (λ (x : Option Row). elim x [ None ↦ [] | Some row ↦ all_seen row.entries.now ]) e
+
+entries_at_kept : (rows more : List Row) (k : ℕ) → k < length rows → entries_at (rows ++ more) k ≡ entries_at rows k
+entries_at_kept rows more k h =
+    let r = row_at rows k h in
+    entries_at_get (rows ++ more) k r.0 (get_append rows more k r.0 r.1) ∙ sym (entries_at_get rows k r.0 r.1)
+
+length_seen : (es : List Held) → length (all_seen es) ≡ length es
+length_seen [] = refl
+length_seen (e ∷ es) = ap suc (length_seen es)
+
+pub slots_more : (program : Program) (rows rows' : List Row) (firsts : List ℕ) (slots slots' : List Slot) (row : Row) (n : ℕ) → Extends rows rows' → SlotsBehind n slots slots' → slice_get rows (length firsts) ≡ Some row →
+    RightUpTo program rows' slots' (length firsts) (length slots) (all_seen row.entries.now) (length row.entries.now) →
+    RightSlots program rows firsts slots → RightSlots program rows' (firsts ++ length slots ∷ []) slots'
+slots_more program rows rows' firsts slots slots' row n x s g here right r first e =
+    elim (get_pushed firsts (length slots) r first e) [ inl h ↦ old h.0 h.1 | inr h ↦ new h.0 h.1 ]
+  where
+    names : (k : ℕ) → k < length rows → entries_at rows' k ≡ entries_at rows k
+    names k h = subst (λ (rs : List Row). entries_at rs k ≡ entries_at rows k) (sym x.1) (entries_at_kept rows x.0 k h)
+    old : r < length firsts → slice_get firsts r ≡ Some first → RightUpTo program rows' slots' r first (entries_at rows' r) (length (entries_at rows' r))
+    old h f =
+        let w : r < length rows = omega (arith, get_within rows (length firsts) row g) in
+        subst (λ (es : List Entry). RightUpTo program rows' slots' r first es (length es)) (sym (names r w)) (upto_kept program rows rows' slots slots' s.0 r first (entries_at rows r) (length (entries_at rows r)) x s.1 w (right r first f))
+    here' : RightUpTo program rows' slots' (length firsts) (length slots) (entries_at rows' (length firsts)) (length (entries_at rows' (length firsts)))
+    here' =
+        subst (λ (es : List Entry). RightUpTo program rows' slots' (length firsts) (length slots) es (length es)) (sym (names (length firsts) (get_within rows (length firsts) row g) ∙ entries_at_get rows (length firsts) row g))
+            (subst (λ (m : ℕ). RightUpTo program rows' slots' (length firsts) (length slots) (all_seen row.entries.now) m) (sym (length_seen row.entries.now)) here)
+    new : r ≡ length firsts → length slots ≡ first → RightUpTo program rows' slots' r first (entries_at rows' r) (length (entries_at rows' r))
+    new h f = subst (λ (x : ℕ). RightUpTo program rows' slots' x first (entries_at rows' x) (length (entries_at rows' x))) (sym h)
+        (subst (λ (y : ℕ). RightUpTo program rows' slots' (length firsts) y (entries_at rows' (length firsts)) (length (entries_at rows' (length firsts)))) f here')
+
+pub main_new : (program : Program) (row : Row) → row.link ≡ None → row.depth ≡ 0 → all_seen row.entries.now ≡ entries_in (scopes_of program) (codes "main") → IsNew program [] row
+main_new program row l d n = record {
+  names = n ∙ (entries_named_is program.modules (codes "main") ∙ ap (λ (k : Option Link). entries (module_at program (next_place [] k))) (sym l));
+  depth = d ∙ ap (λ (k : Option Link). depth_of (next_place [] k)) (sym l);
+  outer = rw l tt
+}

@@ -110,3 +110,15 @@ RightSlots program rows firsts slots =
 abbrev pub called_by : Bool → Meaning → Option Name
 called_by deeper (Inner called actuals) = if deeper then Some called else None
 called_by deeper m = None
+
+-- so many slots came behind these
+abbrev pub SlotsBehind : ℕ → List Slot → List Slot → Type 0
+SlotsBehind n old new = (more : List Slot) × (new ≡ old ++ more) × (length more ≡ n)
+
+-- a table of instances is right: its rows are, the first is `main`, and each has all its slots
+pub record RightTree (program : Program) (rs : List Row) (firsts : List ℕ) (ss : List Slot) : Type 0 where
+  pub rows : RightRows program rs
+  pub main : place_at (places rs) 0 ≡ Main
+  pub some : 0 < length rs
+  pub count : length firsts ≡ length rs
+  pub slots : RightSlots program rs firsts ss

@@ -11,6 +11,7 @@ ghost use Rattle.smv_meaning.specs.Tree as tree;
 use crate::entries::{Entry, Meaning};
 use crate::scope::{Scope, entries_named, meaning_named};
 use smv_ast::{Expr, List, NoMemory, Program, Text};
+use sqlite_items::at;
 use std::alloc::Global;
 
 /// Where an instance is declared: the number of its outer instance, its name there, and the name of
@@ -164,4 +165,69 @@ fn grow<'a>(
         depth: row.depth + 1,
     })?;
     Ok(())
+}
+
+/// Takes the names of an instance into the table, and the instances that it declares.
+fn expand<'a>(
+    program: &Program,
+    scopes: &'a [Scope<'a>],
+    rows: &mut List<Row<'a>>,
+    slots: &mut List<Slot<'a>>,
+    r: usize,
+    row: Row<'a>,
+) -> Result<(), NoMemory>
+    requires scopes { map scope_seen scopes.now ≡ scopes_of program.now }
+    requires rows { tree.RightRows program.now rows.old }
+    requires row { slice_get rows.old r ≡ Some row }
+    ensures extends { OnOk result (tree.Extends rows.old rows.new) }
+    ensures rows { OnOk result (tree.RightRows program.now rows.new) }
+    ensures behind { OnOk result (tree.SlotsBehind (length row.entry.entries.now) slots.old slots.new) }
+    ensures slots { OnOk result (tree.RightUpTo program.now rows.new slots.new r (length slots.old)
+        (all_seen row.entry.entries.now) (length row.entry.entries.now)) }
+{
+    for entry in row.entries {
+        grow(program, scopes, rows, slots, r, row, *entry)?;
+    }
+    Ok(())
+}
+
+/// The instances of a program by number, and their names.
+#[derive(Drop)]
+pub struct Tree<'a> {
+    pub rows: List<Row<'a>>,
+    /// The number of the first slot of each row.
+    pub firsts: List<usize>,
+    pub slots: List<Slot<'a>>,
+}
+
+/// The instances of a program; none where there are `most` or more.
+pub fn tree_of<'a>(
+    alloc: Global,
+    program: &Program,
+    scopes: &'a [Scope<'a>],
+    most: usize,
+) -> Result<Option<Tree<'a>>, NoMemory>
+    requires scopes { map scope_seen scopes.now ≡ scopes_of program.now }
+    ensures { IfOk result (λ t. IfSome t (λ t. tree.RightTree program.now t.rows t.firsts t.slots)) }
+{
+    let mut rows = List::new(alloc);
+    let mut firsts = List::new(alloc);
+    let mut slots = List::new(alloc);
+    rows.push(Row {
+        link: None,
+        entries: entries_named(scopes, "main"),
+        depth: 0,
+    })?;
+    for r in 0..most {
+        let Some(row) = at(rows.as_slice(), r).copied() else {
+            return Ok(Some(Tree {
+                rows,
+                firsts,
+                slots,
+            }));
+        };
+        firsts.push(slots.len())?;
+        expand(program, scopes, &mut rows, &mut slots, r, row)?;
+    }
+    Ok(None)
 }
