@@ -8,3 +8,4 @@ pub mod Values
 pub mod Runs
 pub mod Entries
 pub mod Tree
+pub mod Slots

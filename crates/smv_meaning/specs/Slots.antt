@@ -1,0 +1,34 @@
+-- The names of instances by the numbers of their slots.
+use Rattle.std.specs.Prelude.{◌≡◌, ℕ, ◌+◌, List, Option, Some, None, slice_get}
+use Rattle.std.specs.Option.{option_map}
+use Rattle.smv_meaning.specs.declared.tree.Row.{Row}
+use Rattle.smv_meaning.specs.declared.tree.Slot.{Slot}
+use Rattle.smv_meaning.specs.declared.tree.Tree.{Tree}
+use Rattle.smv_meaning.specs.Value.{and_then}
+use Rattle.smv_meaning.specs.Paths.{Spot, Meant}
+use Rattle.smv_meaning.specs.Entries.{first_place}
+use Rattle.smv_meaning.specs.Tree.{entries_at, meant_seen}
+
+-- the number of the slot of a name of an instance
+abbrev pub slot_of : Tree → Spot ℕ → Option ℕ
+slot_of tree spot = and_then (slice_get tree.firsts spot.place) (λ first. option_map (λ k. first + k) (first_place spot.name (entries_at tree.rows spot.place)))
+
+-- the name of an instance of which this is the slot
+abbrev pub spot_of : Slot → Spot ℕ
+spot_of slot = record { place = slot.row; name = slot.name.now }
+
+-- what the names of the instances are, by number
+abbrev pub meant_in : Tree → Spot ℕ → Option (Meant ℕ)
+meant_in tree spot = and_then (slot_of tree spot) (λ k. and_then (slice_get tree.slots k) (λ slot. Some (meant_seen slot.meant)))
+
+-- what a table of slots tells of a name of an instance
+abbrev pub by_slot : {A : Type 0} → Tree → (ℕ → Option A) → Spot ℕ → Option A
+by_slot tree told spot = and_then (slot_of tree spot) told
+
+-- a step on names of instances, as one on slots
+abbrev pub slot_step : {A : Type 0} → Tree → ((Spot ℕ → Option A) → Spot ℕ → Option A) → (ℕ → Option A) → ℕ → Option A
+slot_step tree step told k = and_then (slice_get tree.slots k) (λ slot. step (by_slot tree told) (spot_of slot))
+
+-- each name of an instance that has a slot stands in it
+abbrev pub HasSlots : Tree → Type 0
+HasSlots tree = (spot : Spot ℕ) (k : ℕ) → slot_of tree spot ≡ Some k → (slot : Slot) × (slice_get tree.slots k ≡ Some slot) × (spot_of slot ≡ spot)
