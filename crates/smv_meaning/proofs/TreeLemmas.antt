@@ -159,12 +159,12 @@ formal_range n outer m k h = at (slice_get (actuals_of m) k)
     at None = tt
     at (Some a) = h
 
-row_at : (rows : List Row) (k : ℕ) → k < length rows → (row : Row) × (slice_get rows k ≡ Some row)
+pub row_at : (rows : List Row) (k : ℕ) → k < length rows → (row : Row) × (slice_get rows k ≡ Some row)
 row_at [] k h = absurd (omega arith)
 row_at (r ∷ rows) zero h = (r, refl)
 row_at (r ∷ rows) (suc k) h = row_at rows k (omega arith)
 
-names_at : (program : Program) (rows : List Row) (k : ℕ) → RightRows program rows → k < length rows → entries_at rows k ≡ entries (module_at program (place_at (places rows) k))
+pub names_at : (program : Program) (rows : List Row) (k : ℕ) → RightRows program rows → k < length rows → entries_at rows k ≡ entries (module_at program (place_at (places rows) k))
 names_at program rows k right h =
     let r = row_at rows k h in
     at (slice_get rows k) r.0 r.1 (right k r.0 r.1).names

@@ -25,9 +25,17 @@ meant_in tree spot = and_then (slot_of tree spot) (λ k. and_then (slice_get tre
 abbrev pub by_slot : {A : Type 0} → Tree → (ℕ → Option A) → Spot ℕ → Option A
 by_slot tree told spot = and_then (slot_of tree spot) told
 
--- a step on names of instances, as one on slots
-abbrev pub slot_step : {A : Type 0} → Tree → ((Spot ℕ → Option A) → Spot ℕ → Option A) → (ℕ → Option A) → ℕ → Option A
-slot_step tree step told k = and_then (slice_get tree.slots k) (λ slot. step (by_slot tree told) (spot_of slot))
+-- what makes a fact of a name of an instance, over facts of others, from what the name is
+abbrev pub Maker : Type 0 → Type 0
+Maker A = (Spot ℕ → Option A) → Spot ℕ → Meant ℕ → Option A
+
+-- a maker as a step on names
+abbrev pub name_step : {A : Type 0} → Tree → Maker A → (Spot ℕ → Option A) → Spot ℕ → Option A
+name_step tree make told spot = and_then (meant_in tree spot) (make told spot)
+
+-- a maker as a step on slots
+abbrev pub slot_step : {A : Type 0} → Tree → Maker A → (ℕ → Option A) → ℕ → Option A
+slot_step tree make told k = and_then (slice_get tree.slots k) (λ slot. make (by_slot tree told) (spot_of slot) (meant_seen slot.meant))
 
 -- each name of an instance that has a slot stands in it
 abbrev pub HasSlots : Tree → Type 0

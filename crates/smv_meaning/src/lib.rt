@@ -7,6 +7,7 @@ mod entries;
 mod operators;
 mod run;
 mod scope;
+mod standing;
 mod tree;
 mod value;
 
