@@ -9,3 +9,5 @@ pub mod Runs
 pub mod Entries
 pub mod Tree
 pub mod Slots
+pub mod Growing
+pub mod StepGrowing

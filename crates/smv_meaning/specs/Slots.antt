@@ -4,8 +4,9 @@ use Rattle.std.specs.Option.{option_map}
 use Rattle.smv_meaning.specs.declared.tree.Row.{Row}
 use Rattle.smv_meaning.specs.declared.tree.Slot.{Slot}
 use Rattle.smv_meaning.specs.declared.tree.Tree.{Tree}
-use Rattle.smv_meaning.specs.Value.{and_then}
-use Rattle.smv_meaning.specs.Paths.{Spot, Meant}
+use Rattle.smv_meaning.specs.Value.{Name, and_then}
+use Rattle.smv_meaning.specs.Least.{entry}
+use Rattle.smv_meaning.specs.Paths.{Spot, Meant, behind, standing, leads}
 use Rattle.smv_meaning.specs.Entries.{first_place}
 use Rattle.smv_meaning.specs.Tree.{entries_at, meant_seen}
 
@@ -39,4 +40,16 @@ slot_step tree make told k = and_then (slice_get tree.slots k) (λ slot. make (b
 
 -- each name of an instance that has a slot stands in it
 abbrev pub HasSlots : Tree → Type 0
-HasSlots tree = (spot : Spot ℕ) (k : ℕ) → slot_of tree spot ≡ Some k → (slot : Slot) × (slice_get tree.slots k ≡ Some slot) × (spot_of slot ≡ spot)
+HasSlots tree = (spot : Spot ℕ) (k : ℕ) → slot_of tree spot ≡ Some k → option_map spot_of (slice_get tree.slots k) ≡ Some spot
+
+-- which instance a slot stands for, over those that other slots stand for
+abbrev pub stand_slots : Tree → (ℕ → Option ℕ) → ℕ → Option ℕ
+stand_slots tree = slot_step tree (λ stand spot. behind stand)
+
+-- the table tells which instance each name stands for
+abbrev pub TellsStanding : Tree → List (Option ℕ) → Type 0
+TellsStanding tree table = (spot : Spot ℕ) → by_slot tree (entry table) spot ≡ standing (meant_in tree) spot
+
+-- the slot of the declaration to which a path leads
+abbrev pub leads_to : Tree → ℕ → List Name → Option ℕ
+leads_to tree row path = and_then (leads (meant_in tree) row path) (slot_of tree)

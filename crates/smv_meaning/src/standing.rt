@@ -73,3 +73,66 @@ fn behind(tree: &Tree, table: &[Option<usize>], meant: Meant) -> Option<usize>
         _ => None,
     }
 }
+
+/// What makes an instance known behind each slot.
+#[derive(Drop)]
+struct Stands<'t, 'a> {
+    tree: &'t Tree<'a>,
+    ghost has: { slots.HasSlots tree.now },
+}
+
+impl<'t, 'a> Step<usize> for Stands<'t, 'a> {
+    ghost use Rattle.smv_meaning.specs.Slots.{stand_slots};
+    ghost use Rattle.smv_meaning.specs.StepGrowing.{stand_slots_grows};
+
+    ghost step = { λ me. stand_slots me.tree.now };
+
+    ghost grows = { λ me. stand_slots_grows me.tree.now };
+
+    fn step(
+        &self,
+        _alloc: Global,
+        table: &[Option<usize>],
+        k: usize,
+    ) -> Result<Option<usize>, NoMemory> {
+        match at(self.tree.slots.as_slice(), k).copied() {
+            Some(slot) => Ok(behind(self.tree, table, slot.meant)),
+            None => Ok(None),
+        }
+    }
+}
+
+/// Which instance each slot stands for.
+pub fn standing_of(alloc: Global, tree: &Tree) -> Result<List<Option<usize>>, NoMemory>
+    requires { slots.HasSlots tree.now }
+    ensures { IfOk result (λ table. slots.TellsStanding tree.now table) }
+{
+    let table = fill(alloc, &Stands { tree }, tree.slots.len(), &[])?;
+    Ok(table)
+}
+
+/// The slot of the declaration to which a path leads from an instance.
+pub fn leads(
+    tree: &Tree,
+    standing: &[Option<usize>],
+    start: usize,
+    names: &[Text],
+) -> Option<usize>
+    requires has { slots.HasSlots tree.now }
+    requires tells { slots.TellsStanding tree.now standing.now }
+    ensures { result ≡ slots.leads_to tree.now start names.now }
+{
+    let mut row = start;
+    let mut left = names.len();
+    for name in names {
+        left -= 1;
+        if left == 0 {
+            return slot_of(tree, row, name.as_str());
+        }
+        match told_of(tree, standing, row, name.as_str()) {
+            Some(below) => row = below,
+            None => return None,
+        }
+    }
+    None
+}
