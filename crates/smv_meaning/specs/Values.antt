@@ -40,9 +40,13 @@ abbrev pub section_names : Section → Name → Bool
 section_names (section.Vars declarations) name = list_any (λ d. declared_names d.what name) declarations
 section_names s name = false
 
+-- whether it stands in a type of one of the sections
+abbrev pub module_names : List Section → Name → Bool
+module_names sections name = list_any (λ s. section_names s name) sections
+
 -- whether a name stands in a type of the program
 abbrev pub is_symbol : Program → Name → Bool
-is_symbol program name = list_any (λ m. list_any (λ s. section_names s name) m.sections) program.modules
+is_symbol program name = list_any (λ m. module_names m.sections name) program.modules
 
 -- a single name that stands in a type is a symbol
 abbrev pub symbol_of : Program → List Name → Option Value

@@ -8,6 +8,7 @@ mod operators;
 mod run;
 mod scope;
 mod standing;
+mod symbols;
 mod tree;
 mod value;
 
