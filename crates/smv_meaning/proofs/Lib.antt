@@ -2,4 +2,5 @@ pub mod LeastLemmas
 pub mod SenseLemmas
 pub mod TreeLemmas
 pub mod SlotLemmas
+pub mod WorthLemmas
 mod Examples

@@ -11,3 +11,4 @@ pub mod Tree
 pub mod Slots
 pub mod Growing
 pub mod StepGrowing
+pub mod Worth

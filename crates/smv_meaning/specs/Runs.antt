@@ -14,6 +14,7 @@ use Rattle.smv_ast.specs.declared.program.Section.TheVariants as section
 use Rattle.smv_ast.specs.declared.program.Module.{Module}
 use Rattle.smv_ast.specs.declared.program.Program.{Program}
 use Rattle.smv_meaning.specs.declared.value.Value.{Value}
+use Rattle.smv_meaning.specs.declared.run.Named.{Named}
 use Rattle.smv_meaning.specs.declared.run.RunState.{RunState}
 use Rattle.smv_meaning.specs.declared.run.RunAnswer.{RunAnswer}
 use Rattle.smv_meaning.specs.declared.run.RunAnswer.TheVariants as answer
@@ -143,9 +144,13 @@ IsReachable program s = (first : State) × (more : List State) × IsRun program 
 abbrev pub path_text : List Name → List ℕ
 path_text = joined (codes ".")
 
--- the value that a written state gives a path; of two the first counts
+-- the value that a written state gives a path by its text; of two the first counts
+abbrev pub written_value : List Named → List ℕ → Option Value
+written_value values text = and_then (find (λ n. bytes_eq n.path text) values) (λ n. Some n.value)
+
+-- the value that a written state gives a path
 abbrev pub state_of : RunState → State
-state_of written path = and_then (find (λ n. bytes_eq n.path (path_text path)) written.values) (λ n. Some n.value)
+state_of written path = written_value written.values (path_text path)
 
 -- ---- the first broken place
 

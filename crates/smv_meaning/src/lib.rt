@@ -4,6 +4,7 @@
 pub mod evaluation;
 pub mod least;
 mod entries;
+mod net;
 mod operators;
 mod run;
 mod scope;
