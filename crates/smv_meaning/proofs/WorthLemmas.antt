@@ -1,15 +1,17 @@
 -- What names are worth by number, and by place.
 use Rattle.std.proofs.Common.{◌≡◌, ℕ, zero, suc, ◌+◌, ◌<◌, ◌≤◌, Bool, true, false, List, [], ◌∷◌, ◌++◌, length, get_or, Option, Some, None, refl, sym, ap, ◌∙◌, subst, arith, append_assoc, ◌⊎◌, inl, inr, codes, length-append}
 use Rattle.std.specs.Prelude.{slice_get, slice_index_or, IfSome}
+use Rattle.std.specs.Option.{option_map}
 use Rattle.std.proofs.lemmas.List.{append-nil}
 use Rattle.smv_ast.specs.PrintedExpr.{joined, each_after}
 use Rattle.smv_meaning.specs.declared.tree.Row.{Row}
 use Rattle.smv_meaning.specs.declared.tree.Link.{Link}
-use Rattle.smv_meaning.specs.Value.{Name}
+use Rattle.smv_meaning.specs.Value.{Name, and_then}
 use Rattle.smv_meaning.specs.Instances.{Place, Main, Within, path_of}
 use Rattle.smv_meaning.specs.Runs.{path_text}
 use Rattle.smv_meaning.specs.Tree.{place_at, next_place, places}
-use Rattle.smv_meaning.specs.Worth.{IsLinked, AreLinked, text_below, link_of, link_text, row_text, TellsPaths}
+use Rattle.smv_meaning.specs.Worth.{IsLinked, AreLinked, text_below, link_of, link_text, row_text, TellsPaths, SpellsNames, name_text}
+use Rattle.smv_meaning.specs.declared.tree.Tree.{Tree}
 use Rattle.smv_meaning.proofs.TreeLemmas.{get_within, get_append, get_last, row_at}
 
 -- ---- texts of paths
@@ -84,3 +86,12 @@ pub get_item : {A : Type 0} (xs : List A) (k : ℕ) (x : A) → k < length xs �
 get_item [] k x h e = absurd (omega arith)
 get_item (y ∷ ys) zero x h e = ap Some (sym e)
 get_item (y ∷ ys) (suc k) x h e = get_item ys k x (omega arith) e
+
+pub spells : (rows : List Row) (texts : List (List ℕ)) → AreLinked rows → TellsPaths rows texts → SpellsNames rows texts
+spells rows texts linked tells k row name e =
+    ap (option_map (λ text. text_below row.link text name)) (tells k row e) ∙ ap Some (sym (below_is rows k row name linked e))
+
+pub name_text_is : (tree : Tree) (texts : List (List ℕ)) (k : ℕ) (row : Row) (name : Name) → SpellsNames tree.rows texts → slice_get tree.rows k ≡ Some row →
+    option_map (λ text. text_below row.link text name) (slice_get texts k) ≡ name_text tree (record { place = k; name = name })
+name_text_is tree texts k row name spells e =
+    spells k row name e ∙ sym (ap (λ (o : Option Row). and_then o (λ row. Some (path_text (path_of (place_at (places tree.rows) k) ++ name ∷ [])))) e)

@@ -1,5 +1,6 @@
 -- What the names of instances are worth, by the numbers of their slots.
 use Rattle.std.specs.Prelude.{◌≡◌, ℕ, ◌<◌, List, [], ◌∷◌, ◌++◌, length, Option, Some, None, slice_get, slice_index_or, IfSome, codes}
+use Rattle.std.specs.Option.{option_map}
 use Rattle.smv_ast.specs.declared.program.Program.{Program}
 use Rattle.smv_meaning.specs.declared.value.Value.{Value}
 use Rattle.smv_meaning.specs.declared.run.RunState.{RunState}
@@ -47,6 +48,15 @@ row_text rows texts (Some link) = link_text rows texts link
 -- the texts are those of the paths of the instances
 abbrev pub TellsPaths : List Row → List (List ℕ) → Type 0
 TellsPaths rows texts = (k : ℕ) (row : Row) → slice_get rows k ≡ Some row → slice_get texts k ≡ Some (path_text (path_of (place_at (places rows) k)))
+
+-- the texts are those from which the paths of all names are made
+abbrev pub SpellsNames : List Row → List (List ℕ) → Type 0
+SpellsNames rows texts = (k : ℕ) (row : Row) (name : Name) → slice_get rows k ≡ Some row →
+    option_map (λ text. text_below row.link text name) (slice_get texts k) ≡ Some (path_text (path_of (place_at (places rows) k) ++ name ∷ []))
+
+-- the text of the path of a name, where there is such an instance
+abbrev pub name_text : Tree → Spot ℕ → Option (List ℕ)
+name_text tree spot = and_then (slice_get tree.rows spot.place) (λ row. Some (path_text (path_of (place_at (places tree.rows) spot.place) ++ spot.name ∷ [])))
 
 -- the value that a written state gives a variable of the instance of a number
 abbrev pub variable_at : Tree → RunState → Worth ℕ

@@ -12,6 +12,7 @@ mod standing;
 mod symbols;
 mod tree;
 mod value;
+mod worth;
 
 pub use run::{Named, Run, RunAnswer, RunState};
 pub use value::{Value, first_value};

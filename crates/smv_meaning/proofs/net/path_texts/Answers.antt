@@ -2,7 +2,7 @@ use Rattle.std.proofs.Common.{◌≡◌, ◌++◌, ◌∷◌, [], ◌+◌, ◌<�
 use Rattle.std.specs.Prelude.{slice_get, IfSome}
 use Rattle.smv_meaning.specs.Worth.{row_text}
 use Rattle.smv_meaning.proofs.TreeLemmas.{get_within}
-use Rattle.smv_meaning.proofs.WorthLemmas.{tells_more, within_rows, get_item}
+use Rattle.smv_meaning.proofs.WorthLemmas.{tells_more, within_rows, get_item, spells}
 use Rattle.smv_meaning.proofs.net.path_texts.Goals as goal
 
 pub row_text-requires-clause-rows : goal.row_text-requires-clause-rows
@@ -25,4 +25,4 @@ loop-row-preserved c =
     }
 
 pub returns : goal.returns
-returns c = λ k row e. c.loop-row.invariant.told k row (omega (arith, get_within c.args.rows.now k row e)) e
+returns c = spells c.args.rows.now c.loop-row.texts c.requires (λ k row e. c.loop-row.invariant.told k row (omega (arith, get_within c.args.rows.now k row e)) e)
