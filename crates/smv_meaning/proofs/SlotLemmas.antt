@@ -21,7 +21,9 @@ use Rattle.smv_meaning.specs.Instances.{Entry, Place, meant_at, entries, module_
 use Rattle.smv_meaning.specs.Tree.{entries_at, place_at, places, placed, InRange, meant_seen, RightTree, RightSlot}
 use Rattle.smv_meaning.specs.Slots.{slot_of, spot_of, meant_in, by_slot, Maker, name_step, slot_step, HasSlots, stand_slots, TellsStanding, leads_to}
 use Rattle.smv_meaning.specs.Senses.{Reading, sense_of}
-use Rattle.smv_meaning.specs.Values.{Worth, worth_at, reading_by, read_by, worth_of, worth_step}
+use Rattle.smv_meaning.specs.declared.run.RunState.{RunState}
+use Rattle.smv_meaning.specs.Worth.{variable_at, worth_slots, TellsWorth}
+use Rattle.smv_meaning.specs.Values.{symbol_of, Worth, worth_at, reading_by, read_by, worth_of, worth_step}
 use Rattle.smv_meaning.proofs.TreeLemmas.{entries_at_get, get_within, names_at}
 
 -- ---- slots and names
@@ -108,3 +110,13 @@ lead_more tree table (n ∷ m ∷ names) zero row below name tells h e b =
     ∙ ap (λ (o : Option ℕ). and_then (and_then o (λ p. leads (meant_in tree) p (m ∷ names))) (slot_of tree)) (sym (tells (record { place = row; name = name })) ∙ b)
 lead_more tree table (n ∷ names) (suc i) row below name tells h e b =
     let s : suc i + 1 ≡ suc (i + 1) = omega arith in rw s (lead_more tree table names i row below name tells (omega arith) e b)
+
+-- ---- worth
+
+pub worth_slots_past : (program : Program) (tree : Tree) (written : RunState) (s : ℕ → Option Value) (k : ℕ) → length tree.slots ≤ k → worth_slots program tree written s k ≡ None
+worth_slots_past program tree written = slot_step_past tree (worth_of (meant_in tree) (symbol_of program) (variable_at tree written))
+
+-- a table with all that slots are worth tells what names are
+pub tells_worth : (program : Program) (tree : Tree) (written : RunState) (table : List (Option Value)) → HasSlots tree → ((k : ℕ) → entry table k ≡ least (worth_slots program tree written) k) → TellsWorth program tree written table
+tells_worth program tree written table has right spot =
+    ap (λ (f : ℕ → Option Value). by_slot tree f spot) (fun_ext right) ∙ sym (least_slots tree has (worth_of (meant_in tree) (symbol_of program) (variable_at tree written)) spot)

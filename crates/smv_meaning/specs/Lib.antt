@@ -9,6 +9,6 @@ pub mod Runs
 pub mod Entries
 pub mod Tree
 pub mod Slots
+pub mod Worth
 pub mod Growing
 pub mod StepGrowing
-pub mod Worth

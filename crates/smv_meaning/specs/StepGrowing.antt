@@ -10,7 +10,10 @@ use Rattle.smv_meaning.specs.Paths.{Spot, Meant, Standing, IsVariable, IsInstanc
 use Rattle.smv_meaning.specs.Tree.{meant_seen}
 use Rattle.smv_meaning.specs.Slots.{slot_of, spot_of, meant_in, by_slot, Maker, slot_step, stand_slots}
 use Rattle.smv_meaning.specs.Senses.{Reading, sense_of}
-use Rattle.smv_meaning.specs.Values.{Worth, worth_at, reading_by, read_by, worth_of, worth_step}
+use Rattle.smv_ast.specs.declared.program.Program.{Program}
+use Rattle.smv_meaning.specs.declared.run.RunState.{RunState}
+use Rattle.smv_meaning.specs.Worth.{variable_at, worth_slots}
+use Rattle.smv_meaning.specs.Values.{symbol_of, Worth, worth_at, reading_by, read_by, worth_of, worth_step}
 use Rattle.smv_meaning.specs.Growing.{Le, then_le, sense_grows}
 
 -- ---- the steps grow
@@ -71,3 +74,8 @@ slot_step_grows tree make grows s t u k =
 pub stand_slots_grows : (tree : Tree) (s t : ℕ → Option ℕ) → Under s t → Under (stand_slots tree s) (stand_slots tree t)
 stand_slots_grows tree = slot_step_grows tree (λ stand spot. behind stand) (λ s t u spot m. behind_grows (meant_in tree) s t u m)
 
+
+-- the step of worth on slots grows
+pub worth_slots_grows : (program : Program) (tree : Tree) (written : RunState) (s t : ℕ → Option Value) → Under s t → Under (worth_slots program tree written s) (worth_slots program tree written t)
+worth_slots_grows program tree written =
+    slot_step_grows tree (worth_of (meant_in tree) (symbol_of program) (variable_at tree written)) (worth_of_grows (meant_in tree) (symbol_of program) (variable_at tree written))

@@ -1,6 +1,7 @@
 -- What the names of instances are worth, by the numbers of their slots.
 use Rattle.std.specs.Prelude.{◌≡◌, ℕ, ◌<◌, List, [], ◌∷◌, ◌++◌, length, Option, Some, None, slice_get, slice_index_or, IfSome, codes}
 use Rattle.std.specs.Option.{option_map}
+use Rattle.smv_ast.specs.declared.syntax.Expr.{Expr}
 use Rattle.smv_ast.specs.declared.program.Program.{Program}
 use Rattle.smv_meaning.specs.declared.value.Value.{Value}
 use Rattle.smv_meaning.specs.declared.run.RunState.{RunState}
@@ -12,7 +13,7 @@ use Rattle.smv_meaning.specs.Least.{entry, least}
 use Rattle.smv_meaning.specs.Paths.{Spot}
 use Rattle.smv_meaning.specs.Instances.{path_of}
 use Rattle.smv_meaning.specs.Senses.{Reading}
-use Rattle.smv_meaning.specs.Values.{Worth, symbol_of, reading_by, worth_of, worth_in}
+use Rattle.smv_meaning.specs.Values.{Worth, symbol_of, reading_by, read_by, worth_of, worth_in}
 use Rattle.smv_meaning.specs.Runs.{state_of, path_text}
 use Rattle.smv_meaning.specs.Tree.{place_at, next_place, places}
 use Rattle.smv_meaning.specs.Slots.{meant_in, by_slot, slot_step}
@@ -73,3 +74,7 @@ TellsWorth program tree written table = (spot : Spot ℕ) → by_slot tree (entr
 -- what the paths of the instance of a number are worth by a table
 abbrev pub row_reading : Program → Tree → List (Option Value) → ℕ → Reading
 row_reading program tree table row = reading_by (meant_in tree) (symbol_of program) (by_slot tree (entry table)) row
+
+-- the value of an expression that is read in the instance of a number, by a table
+abbrev pub read_row : Program → Tree → List (Option Value) → ℕ → Expr → Option Value
+read_row program tree table row e = read_by (meant_in tree) (symbol_of program) (by_slot tree (entry table)) row e

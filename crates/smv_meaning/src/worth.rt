@@ -12,9 +12,9 @@ use crate::net::text_below;
 use crate::run::{Named, RunState};
 use crate::standing::leads;
 use crate::symbols::symbol_of;
-use crate::tree::{Meant, Slot, Tree};
+use crate::tree::{Meant, Tree};
 use crate::value::Value;
-use smv_ast::{List, NoMemory, Path, Program, Text};
+use smv_ast::{Expr, List, NoMemory, Path, Program, Text};
 use sqlite_items::at;
 use std::alloc::Global;
 
@@ -116,4 +116,70 @@ fn table_value(
         Some(Some(value)) => Ok(Some(value.try_clone(alloc)?)),
         _ => Ok(None),
     }
+}
+
+/// What makes each slot worth something in a written state.
+#[derive(Drop)]
+struct Worths<'t> {
+    net: &'t Net<'t>,
+    written: &'t RunState,
+}
+
+impl<'t> Worths<'t> {
+    fn read_in(
+        &self,
+        alloc: Global,
+        table: &[Option<Value>],
+        row: usize,
+        e: &Expr,
+    ) -> Result<Option<Value>, NoMemory>
+        ensures { IfOk result (λ v. v ≡ worth.read_row self.now.net.now.program.now self.now.net.now.tree.now table.now row e.now) }
+    {
+        let reader = RowReader {
+            net: self.net,
+            row,
+            table,
+        };
+        value(alloc, &reader, &reader, e)
+    }
+}
+
+impl<'t> Step<Value> for Worths<'t> {
+    ghost use Rattle.smv_meaning.specs.Worth.{worth_slots};
+    ghost use Rattle.smv_meaning.specs.StepGrowing.{worth_slots_grows};
+
+    ghost step = { λ me. worth_slots me.net.now.program.now me.net.now.tree.now me.written.now };
+
+    ghost grows = { λ me. worth_slots_grows me.net.now.program.now me.net.now.tree.now me.written.now };
+
+    fn step(
+        &self,
+        alloc: Global,
+        table: &[Option<Value>],
+        k: usize,
+    ) -> Result<Option<Value>, NoMemory> {
+        let Some(slot) = at(self.net.tree.slots.as_slice(), k).copied() else {
+            return Ok(None);
+        };
+        match slot.meant {
+            Meant::Variable => {
+                variable_value(alloc, self.net, self.written, slot.row, slot.name.as_str())
+            }
+            Meant::Define(right) => self.read_in(alloc, table, slot.row, right),
+            Meant::Formal(outer, actual) => self.read_in(alloc, table, outer, actual),
+            _ => Ok(None),
+        }
+    }
+}
+
+/// What each slot is worth in a written state.
+pub fn worth_of(
+    alloc: Global,
+    net: &Net,
+    written: &RunState,
+) -> Result<List<Option<Value>>, NoMemory>
+    ensures { IfOk result (λ table. worth.TellsWorth net.now.program.now net.now.tree.now written.now table) }
+{
+    let table = fill(alloc, &Worths { net, written }, net.tree.slots.len(), &[])?;
+    Ok(table)
 }
