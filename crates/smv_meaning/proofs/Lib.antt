@@ -3,4 +3,5 @@ pub mod SenseLemmas
 pub mod TreeLemmas
 pub mod SlotLemmas
 pub mod WorthLemmas
+pub mod NumberLemmas
 mod Examples
