@@ -167,3 +167,129 @@ module _ (program : Program) (tree : Tree) (right : RightTree program tree.rows 
                 same = ap (option_map (placed stands)) m ∙ sym (ap (λ (x : Option Meaning). and_then x (λ y. Some (placed_meant program (stands r) name y))) w);
                 range = λ y i. cc
               }
+
+  -- ---- what names stand for and are worth
+
+  abbrev n : ℕ
+  n = length tree.rows
+
+  -- an instance by number is the one by place
+  record SamePlace (o : Option ℕ) (p : Option Place) : Type 0 where
+    same : option_map stands o ≡ p
+    range : (c : ℕ) → o ≡ Some c → c < n
+
+  place_some : (c : ℕ) → c < n → SamePlace (Some c) (Some (stands c))
+  place_some c h = record { same = refl; range = λ d e. let i : c ≡ d = cc in subst (λ (x : ℕ). x < n) i h }
+
+  place_none : SamePlace None None
+  place_none = record { same = refl; range = λ d e. cc }
+
+  place_then : (o : Option ℕ) (p : Option Place) (g : ℕ → Option ℕ) (h : Place → Option Place) → SamePlace o p → ((c : ℕ) → c < n → SamePlace (g c) (h (stands c))) → SamePlace (and_then o g) (and_then p h)
+  place_then None p g h s more = subst (λ (q : Option Place). SamePlace None (and_then q h)) s.same place_none
+  place_then (Some c) p g h s more = subst (λ (q : Option Place). SamePlace (g c) (and_then q h)) s.same (more c (s.range c refl))
+
+  meant_then : (o : Option (Meant ℕ)) (p : Option (Meant Place)) (g : Meant ℕ → Option ℕ) (h : Meant Place → Option Place) → option_map (placed stands) o ≡ p → ((m : Meant ℕ) → o ≡ Some m → InRange n m) →
+      ((m : Meant ℕ) → InRange n m → SamePlace (g m) (h (placed stands m))) → SamePlace (and_then o g) (and_then p h)
+  meant_then None p g h s w more = subst (λ (q : Option (Meant Place)). SamePlace None (and_then q h)) s place_none
+  meant_then (Some m) p g h s w more = subst (λ (q : Option (Meant Place)). SamePlace (g m) (and_then q h)) s (more m (w m refl))
+
+  -- standings agree on the instances of the table
+  abbrev Agree : Standing ℕ → Standing Place → Type 0
+  Agree s t = (r : ℕ) (name : Name) → r < n → SamePlace (s (spot_at r name)) (t (spot_at (stands r) name))
+
+  walked_same : (s : Standing ℕ) (t : Standing Place) → Agree s t → (path : List Name) (r : ℕ) → r < n → SamePlace (walked s r path) (walked t (stands r) path)
+  walked_same s t a [] r h = place_some r h
+  walked_same s t a (name ∷ more) r h =
+      place_then (s (spot_at r name)) (t (spot_at (stands r) name)) (λ p. walked s p more) (λ p. walked t p more) (a r name h) (walked_same s t a more)
+
+  stood_same : (s : Standing ℕ) (t : Standing Place) → Agree s t → (r : ℕ) (e : Expr) → r < n → SamePlace (stood_for s r e) (stood_for t (stands r) e)
+  stood_same s t a r (expr.Name path) h = walked_same s t a path.names r h
+  stood_same s t a r _ h = place_none
+
+  behind_same : (s : Standing ℕ) (t : Standing Place) → Agree s t → (m : Meant ℕ) → InRange n m → SamePlace (behind s m) (behind t (placed stands m))
+  behind_same s t a IsVariable h = place_none
+  behind_same s t a (IsInstance c) h = place_some c h
+  behind_same s t a (IsDefine right') h = place_none
+  behind_same s t a (IsFormal c actual) h = stood_same s t a c actual h
+  behind_same s t a IsNothing h = place_none
+
+  stand_same : (s : Standing ℕ) (t : Standing Place) → Agree s t → Agree (stand_step (meant_in tree) s) (stand_step (meant_at program) t)
+  stand_same s t a r name h =
+      let m = same_meant r name h in
+      meant_then (meant_in tree (spot_at r name)) (meant_at program (spot_at (stands r) name)) (behind s) (behind t) m.same m.range (behind_same s t a)
+
+  known_same : (turns : ℕ) → Agree (known (stand_step (meant_in tree)) turns) (known (stand_step (meant_at program)) turns)
+  known_same zero r name h = place_none
+  known_same (suc turns) r name h = stand_same (known (stand_step (meant_in tree)) turns) (known (stand_step (meant_at program)) turns) (known_same turns) r name h
+
+  standing_same : Agree (standing (meant_in tree)) (standing (meant_at program))
+  standing_same = known_same most
+
+  -- a declaration by number is the one by place
+  record SameSpot (o : Option (Spot ℕ)) (p : Option (Spot Place)) : Type 0 where
+    same : option_map (λ spot. spot_at (stands spot.place) spot.name) o ≡ p
+    range : (spot : Spot ℕ) → o ≡ Some spot → spot.place < n
+
+  leads_same : (path : List Name) (r : ℕ) → r < n → SameSpot (leads (meant_in tree) r path) (leads (meant_at program) (stands r) path)
+  leads_same [] r h = record { same = refl; range = λ spot e. cc }
+  leads_same (name ∷ []) r h = at (meant_in tree (spot_at r name)) (meant_at program (spot_at (stands r) name)) (same_meant r name h).same
+    where
+      at : (o : Option (Meant ℕ)) (p : Option (Meant Place)) → option_map (placed stands) o ≡ p → SameSpot (and_then o (λ m. Some (spot_at r name))) (and_then p (λ m. Some (spot_at (stands r) name)))
+      at None p e = subst (λ (q : Option (Meant Place)). SameSpot None (and_then q (λ m. Some (spot_at (stands r) name)))) e (record { same = refl; range = λ spot e. cc })
+      at (Some m) p e = subst (λ (q : Option (Meant Place)). SameSpot (Some (spot_at r name)) (and_then q (λ m. Some (spot_at (stands r) name)))) e
+          (record { same = refl; range = λ spot e. let i : spot_at r name ≡ spot = cc in subst (λ (x : Spot ℕ). x.place < n) i h })
+  leads_same (name ∷ next ∷ more) r h = at (standing (meant_in tree) (spot_at r name)) (standing (meant_at program) (spot_at (stands r) name)) (standing_same r name h) (leads_same (next ∷ more))
+    where
+      at : (o : Option ℕ) (p : Option Place) → SamePlace o p → ((c : ℕ) → c < n → SameSpot (leads (meant_in tree) c (next ∷ more)) (leads (meant_at program) (stands c) (next ∷ more))) →
+          SameSpot (and_then o (λ c. leads (meant_in tree) c (next ∷ more))) (and_then p (λ c. leads (meant_at program) c (next ∷ more)))
+      at None p s deeper = subst (λ (q : Option Place). SameSpot None (and_then q (λ c. leads (meant_at program) c (next ∷ more)))) s.same (record { same = refl; range = λ spot e. cc })
+      at (Some c) p s deeper = subst (λ (q : Option Place). SameSpot (leads (meant_in tree) c (next ∷ more)) (and_then q (λ c. leads (meant_at program) c (next ∷ more)))) s.same (deeper c (s.range c refl))
+
+  -- names are worth the same
+  abbrev Worthy : Worth ℕ → Worth Place → Type 0
+  Worthy u w = (r : ℕ) (name : Name) → r < n → u (spot_at r name) ≡ w (spot_at (stands r) name)
+
+  module _ (symbols : Reading) where
+    reading_same : (u : Worth ℕ) (w : Worth Place) → Worthy u w → (r : ℕ) → r < n → reading_by (meant_in tree) symbols u r ≡ reading_by (meant_at program) symbols w (stands r)
+    reading_same u w a r h = fun_ext (λ path. at path (leads (meant_in tree) r path) (leads (meant_at program) (stands r) path) (leads_same path r h))
+      where
+        at : (path : List Name) (o : Option (Spot ℕ)) (p : Option (Spot Place)) → SameSpot o p → worth_at symbols u path o ≡ worth_at symbols w path p
+        at path None p s = ap (worth_at symbols w path) s.same
+        at path (Some spot) p s = a spot.place spot.name (s.range spot refl) ∙ ap (worth_at symbols w path) s.same
+
+    read_same : (u : Worth ℕ) (w : Worth Place) → Worthy u w → (r : ℕ) (e : Expr) → r < n → read_by (meant_in tree) symbols u r e ≡ read_by (meant_at program) symbols w (stands r) e
+    read_same u w a r e h = ap (λ (x : Reading). (sense_of e).value x x) (reading_same u w a r h)
+
+    module _ (s : Worth ℕ) (t : Worth Place) (state : Worthy s t) where
+      worth_of_same : (u : Worth ℕ) (w : Worth Place) → Worthy u w → (r : ℕ) (name : Name) → r < n → (m : Meant ℕ) → InRange n m → worth_of (meant_in tree) symbols s u (spot_at r name) m ≡ worth_of (meant_at program) symbols t w (spot_at (stands r) name) (placed stands m)
+      worth_of_same u w a r name h IsVariable g = state r name h
+      worth_of_same u w a r name h (IsInstance c) g = refl
+      worth_of_same u w a r name h (IsDefine right') g = read_same u w a r right' h
+      worth_of_same u w a r name h (IsFormal c actual) g = read_same u w a c actual g
+      worth_of_same u w a r name h IsNothing g = refl
+
+      step_same : (u : Worth ℕ) (w : Worth Place) → Worthy u w → Worthy (worth_step (meant_in tree) symbols s u) (worth_step (meant_at program) symbols t w)
+      step_same u w a r name h = let m = same_meant r name h in at (meant_in tree (spot_at r name)) (meant_at program (spot_at (stands r) name)) m.same m.range
+        where
+          at : (o : Option (Meant ℕ)) (p : Option (Meant Place)) → option_map (placed stands) o ≡ p → ((m : Meant ℕ) → o ≡ Some m → InRange n m) →
+              and_then o (worth_of (meant_in tree) symbols s u (spot_at r name)) ≡ and_then p (worth_of (meant_at program) symbols t w (spot_at (stands r) name))
+          at None p e g = ap (λ (q : Option (Meant Place)). and_then q (worth_of (meant_at program) symbols t w (spot_at (stands r) name))) e
+          at (Some m) p e g = worth_of_same u w a r name h m (g m refl) ∙ ap (λ (q : Option (Meant Place)). and_then q (worth_of (meant_at program) symbols t w (spot_at (stands r) name))) e
+
+      worth_known : (turns : ℕ) → Worthy (known (worth_step (meant_in tree) symbols s) turns) (known (worth_step (meant_at program) symbols t) turns)
+      worth_known zero r name h = refl
+      worth_known (suc turns) r name h = step_same (known (worth_step (meant_in tree) symbols s) turns) (known (worth_step (meant_at program) symbols t) turns) (worth_known turns) r name h
+
+      worth_same : Worthy (worth_in (meant_in tree) symbols s) (worth_in (meant_at program) symbols t)
+      worth_same = worth_known most
+
+  state_same : (written : RunState) → Worthy (variable_at tree written) (variable_in (state_of written))
+  state_same written r name h =
+      let row = row_at tree.rows r h in
+      ap (λ (o : Option Row). and_then o (λ row. state_of written (path_of (stands r) ++ name ∷ []))) row.1
+
+  -- what the paths of an instance are worth by a table of its slots, they are worth in the state
+  pub row_reading_is : (written : RunState) (table : List (Option Value)) (r : ℕ) → TellsWorth program tree written table → r < n → row_reading program tree table r ≡ reading_in program (state_of written) (stands r)
+  row_reading_is written table r tells h =
+      ap (λ (u : Worth ℕ). reading_by (meant_in tree) (symbol_of program) u r) (fun_ext tells)
+      ∙ reading_same (symbol_of program) (worth_in (meant_in tree) (symbol_of program) (variable_at tree written)) (worth_in (meant_at program) (symbol_of program) (variable_in (state_of written))) (worth_same (symbol_of program) (variable_at tree written) (variable_in (state_of written)) (state_same written)) r h
