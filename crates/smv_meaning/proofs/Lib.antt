@@ -4,4 +4,5 @@ pub mod TreeLemmas
 pub mod SlotLemmas
 pub mod WorthLemmas
 pub mod NumberLemmas
+pub mod OrderLemmas
 mod Examples

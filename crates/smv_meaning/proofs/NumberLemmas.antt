@@ -26,7 +26,7 @@ use Rattle.smv_meaning.specs.Slots.{slot_of, spot_of, meant_in, by_slot, HasSlot
 use Rattle.smv_meaning.specs.Worth.{IsLinked, AreLinked, variable_at, TellsWorth, row_reading}
 use Rattle.smv_meaning.proofs.TreeLemmas.{get_within, row_at, names_at}
 
-get_at : {A : Type 0} (xs : List A) (k : ℕ) → k < length xs → (a : A) × (slice_get xs k ≡ Some a)
+pub get_at : {A : Type 0} (xs : List A) (k : ℕ) → k < length xs → (a : A) × (slice_get xs k ≡ Some a)
 get_at [] k h = absurd (omega arith)
 get_at (x ∷ xs) zero h = (x, refl)
 get_at (x ∷ xs) (suc k) h = get_at xs k (omega arith)

@@ -337,7 +337,7 @@ entries_at_kept rows more k h =
     let r = row_at rows k h in
     entries_at_get (rows ++ more) k r.0 (get_append rows more k r.0 r.1) ∙ sym (entries_at_get rows k r.0 r.1)
 
-length_seen : (es : List Held) → length (all_seen es) ≡ length es
+pub length_seen : (es : List Held) → length (all_seen es) ≡ length es
 length_seen [] = refl
 length_seen (e ∷ es) = ap suc (length_seen es)
 

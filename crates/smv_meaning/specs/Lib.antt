@@ -12,3 +12,4 @@ pub mod Slots
 pub mod Worth
 pub mod Growing
 pub mod StepGrowing
+pub mod Checking

@@ -6,6 +6,7 @@ pub mod least;
 mod entries;
 mod net;
 mod operators;
+mod order;
 mod run;
 mod scope;
 mod standing;
