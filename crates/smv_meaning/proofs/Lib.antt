@@ -5,4 +5,5 @@ pub mod SlotLemmas
 pub mod WorthLemmas
 pub mod NumberLemmas
 pub mod OrderLemmas
+pub mod ItemLemmas
 mod Examples

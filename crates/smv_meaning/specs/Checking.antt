@@ -4,6 +4,9 @@ use Rattle.smv_ast.specs.declared.program.Program.{Program}
 use Rattle.smv_meaning.specs.declared.tree.Tree.{Tree}
 use Rattle.smv_meaning.specs.declared.tree.Slot.{Slot}
 use Rattle.smv_meaning.specs.declared.worth.Net.{Net}
+use Rattle.smv_meaning.specs.declared.value.Value.{Value}
+use Rattle.smv_meaning.specs.declared.run.RunState.{RunState}
+use Rattle.smv_meaning.specs.Worth.{TellsWorth}
 use Rattle.smv_meaning.specs.Value.{and_then}
 use Rattle.smv_meaning.specs.Paths.{Meant, IsInstance}
 use Rattle.smv_meaning.specs.Instances.{Place}
@@ -34,3 +37,11 @@ inner_slot (Some slot) = inner_meant (meant_seen slot.meant)
 -- the instances of these numbers are in the table
 abbrev pub AreRows : Tree → List ℕ → Type 0
 AreRows tree order = All (λ row. row < length tree.rows) order
+
+-- the net has the table of instances of its program
+abbrev pub IsRightNet : Net → Type 0
+IsRightNet net = IsRight net.program.now net.tree.now
+
+-- the table tells what names are worth in the written state
+abbrev pub Tells : Net → RunState → List (Option Value) → Type 0
+Tells net written table = TellsWorth net.program.now net.tree.now written table

@@ -13,3 +13,4 @@ pub mod Worth
 pub mod Growing
 pub mod StepGrowing
 pub mod Checking
+pub mod Items

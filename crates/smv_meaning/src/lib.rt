@@ -2,6 +2,7 @@
 #![tactic(auto)]
 
 pub mod evaluation;
+mod items;
 pub mod least;
 mod entries;
 mod net;

@@ -67,7 +67,7 @@ fn name_text(
 }
 
 /// The value that a written state gives a variable.
-fn variable_value(
+pub fn variable_value(
     alloc: Global,
     net: &Net,
     written: &RunState,
