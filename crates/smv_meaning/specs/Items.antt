@@ -3,11 +3,11 @@ use Rattle.std.specs.Prelude.{◌≡◌, ℕ, ◌&&◌, Bool, true, false, List,
 use Rattle.std.specs.Option.{option_map}
 use Rattle.smv_ast.specs.declared.syntax.Expr.{Expr}
 use Rattle.smv_ast.specs.declared.syntax.Span.{Span}
-use Rattle.smv_ast.specs.declared.program.Section.{Section}
+use Rattle.smv_ast.specs.declared.program.Assignment.{Assignment}
 use Rattle.smv_meaning.specs.declared.items.View.{View}
 use Rattle.smv_meaning.specs.declared.worth.Net.{Net}
 use Rattle.smv_meaning.specs.Value.{Name}
-use Rattle.smv_meaning.specs.Runs.{Demand, Item, state_of, is_true_in, is_assigned, meets, section_items, first_some, broken_at}
+use Rattle.smv_meaning.specs.Runs.{Demand, Item, state_of, is_true_in, is_assigned, meets, assignment_item, first_some, told}
 use Rattle.smv_meaning.specs.declared.value.Value.{Value}
 use Rattle.smv_meaning.specs.Instances.{path_of}
 use Rattle.smv_meaning.specs.Values.{State, value_in, allows_in}
@@ -45,6 +45,10 @@ assigned_in net row own now after name right = is_assigned net.program.now (stan
 abbrev pub met_in : Net → ℕ → Option View → View → Demand → Bool
 met_in net row before now demand = meets net.program.now (option_map seen_state before) (seen_state now) (stands net.tree.now row) demand
 
--- the first item of a section that is not met
-abbrev pub section_broken : Net → ℕ → Option View → View → Section → Option Span
-section_broken net row before now s = first_some (broken_at net.program.now (option_map seen_state before) (seen_state now) (stands net.tree.now row)) (section_items s)
+-- what an assignment asks
+abbrev pub demand_of : Assignment → Demand
+demand_of a = (assignment_item a).demand
+
+-- the first of these items that the instance of a number does not meet
+abbrev pub first_told : Net → ℕ → Option View → View → List Item → Option Span
+first_told net row before now = first_some (λ item. told (met_in net row before now item.demand) item.at)

@@ -37,17 +37,25 @@ pub record Item : Type 0 where
   pub demand : Demand
   pub at : Span
 
+-- the item of an assignment
+abbrev pub assignment_item : Assignment → Item
+assignment_item a = record { demand = Assigned a.left a.name a.right; at = a.at }
+
 -- the items of a section, in the order of the text
 abbrev pub section_items : Section → List Item
-section_items (section.Assigns assignments) = map (λ a. record { demand = Assigned a.left a.name a.right; at = a.at }) assignments
+section_items (section.Assigns assignments) = map assignment_item assignments
 section_items (section.Init e at) = record { demand = InFirst e; at = at } ∷ []
 section_items (section.Invar e at) = record { demand = InEach e; at = at } ∷ []
 section_items (section.Trans e at) = record { demand = AtStep e; at = at } ∷ []
 section_items s = []
 
+-- the items of sections
+abbrev pub all_items : List Section → List Item
+all_items sections = flat_map section_items sections
+
 -- the items of a module
 abbrev pub items : Module → List Item
-items m = flat_map section_items m.sections
+items m = all_items m.sections
 
 -- ---- states
 
@@ -159,14 +167,24 @@ abbrev pub meets : Program → Option State → State → Place → Demand → B
 meets program None s place d = begins program place s d && stays program place s d
 meets program (Some before) s place d = stays program place s d && steps program place before s d
 
+-- the place of an item that is not met
+abbrev pub told : Bool → Span → Option Span
+told true at = None
+told false at = Some at
+
+-- the first thing, else the second
+abbrev pub or_else : {B : Type 0} → Option B → Option B → Option B
+or_else None other = other
+or_else (Some b) other = Some b
+
 -- the first of the things that are made
 abbrev pub first_some : {A B : Type 0} → (A → Option B) → List A → Option B
 first_some make [] = None
-first_some make (a ∷ more) = elim (make a) [ None ↦ first_some make more | Some b ↦ Some b ]
+first_some make (a ∷ more) = or_else (make a) (first_some make more)
 
--- the place of an item that is not met
+-- the place of an item, if it is not met
 abbrev pub broken_at : Program → Option State → State → Place → Item → Option Span
-broken_at program before s place item = elim (meets program before s place item.demand) [ true ↦ None | false ↦ Some item.at ]
+broken_at program before s place item = told (meets program before s place item.demand) item.at
 
 -- the first item that is not met, in the order of the instances and of the text
 abbrev pub first_broken : Program → Option State → State → Option Span

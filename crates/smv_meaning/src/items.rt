@@ -1,7 +1,8 @@
 //! Whether constraints and assignments are met in a state, or at a step from the state before it.
 
-ghost use Rattle.std.specs.Prelude.{◌≡◌, ◌<◌, IfOk, length, Option, Some, None};
+ghost use Rattle.std.specs.Prelude.{◌≡◌, ◌<◌, IfOk, IfSome, length, map};
 ghost use Rattle.smv_meaning.specs.Runs as spec;
+ghost use Rattle.smv_meaning.specs.Runs.{assignment_item};
 ghost use Rattle.smv_meaning.specs.Checking as checking;
 ghost use Rattle.smv_meaning.specs.Value.{is_true as is_true_value};
 ghost use Rattle.smv_meaning.specs.Items as items;
@@ -139,4 +140,114 @@ fn is_assigned<'t>(
         },
         None => Ok(false),
     }
+}
+
+/// Whether an assignment is met in a state and the one before it, if there is one.
+fn assignment_met<'t>(
+    alloc: Global,
+    net: &'t Net<'t>,
+    row: usize,
+    before: Option<View<'t>>,
+    now: View<'t>,
+    assignment: &Assignment,
+) -> Result<bool, NoMemory>
+    requires right { checking.IsRightNet net.now }
+    requires row { row < length net.now.tree.now.rows }
+    requires before { IfSome before (items.IsView net.now) }
+    requires now { items.IsView net.now now }
+    ensures { IfOk result (λ b. b ≡ items.met_in net.now row before.entry now.entry (items.demand_of assignment.now)) }
+{
+    match (assignment.left, before) {
+        (Left::Now, _) | (Left::Init, None) => {
+            is_assigned(alloc, net, row, now, now, now, assignment)
+        }
+        (Left::Next, Some(before)) => is_assigned(alloc, net, row, now, before, now, assignment),
+        (Left::Init, Some(_)) | (Left::Next, None) => Ok(true),
+    }
+}
+
+/// The place of an item that is not met.
+fn told(met: bool, at: Span) -> Option<Span>
+    ensures { result ≡ spec.told met at }
+{
+    if met { None } else { Some(at) }
+}
+
+fn assignments_broken<'t>(
+    alloc: Global,
+    net: &'t Net<'t>,
+    row: usize,
+    before: Option<View<'t>>,
+    now: View<'t>,
+    assignments: &[Assignment],
+) -> Result<Option<Span>, NoMemory>
+    requires right { checking.IsRightNet net.now }
+    requires row { row < length net.now.tree.now.rows }
+    requires before { IfSome before (items.IsView net.now) }
+    requires now { items.IsView net.now now }
+    ensures { IfOk result (λ b. b ≡ items.first_told net.now row before.entry now.entry (map assignment_item assignments.now)) }
+{
+    for assignment in assignments {
+        let met = assignment_met(alloc, net, row, before, now, assignment)?;
+        if !met {
+            return Ok(Some(assignment.at));
+        }
+    }
+    Ok(None)
+}
+
+/// The first item of a section that is not met in a state and the one before it, if there is one.
+fn section_broken<'t>(
+    alloc: Global,
+    net: &'t Net<'t>,
+    row: usize,
+    before: Option<View<'t>>,
+    now: View<'t>,
+    section: &Section,
+) -> Result<Option<Span>, NoMemory>
+    requires right { checking.IsRightNet net.now }
+    requires row { row < length net.now.tree.now.rows }
+    requires before { IfSome before (items.IsView net.now) }
+    requires now { items.IsView net.now now }
+    ensures { IfOk result (λ b. b ≡ items.first_told net.now row before.entry now.entry (spec.section_items section.now)) }
+{
+    match section {
+        Section::Assigns(assignments) => {
+            assignments_broken(alloc, net, row, before, now, assignments.as_slice())
+        }
+        Section::Init(e, at) => match before {
+            None => Ok(told(is_true_in(alloc, net, row, now, now, e)?, *at)),
+            Some(_) => Ok(None),
+        },
+        Section::Invar(e, at) => Ok(told(is_true_in(alloc, net, row, now, now, e)?, *at)),
+        Section::Trans(e, at) => match before {
+            Some(before) => Ok(told(is_true_in(alloc, net, row, before, now, e)?, *at)),
+            None => Ok(None),
+        },
+        _ => Ok(None),
+    }
+}
+
+/// The first item of these sections that is not met.
+pub fn sections_broken<'t>(
+    alloc: Global,
+    net: &'t Net<'t>,
+    row: usize,
+    before: Option<View<'t>>,
+    now: View<'t>,
+    sections: &[Section],
+) -> Result<Option<Span>, NoMemory>
+    requires right { checking.IsRightNet net.now }
+    requires row { row < length net.now.tree.now.rows }
+    requires before { IfSome before (items.IsView net.now) }
+    requires now { items.IsView net.now now }
+    ensures { IfOk result (λ b. b ≡ items.first_told net.now row before.entry now.entry (spec.all_items sections.now)) }
+{
+    for section in sections {
+        match section_broken(alloc, net, row, before, now, section)? {
+            Some(at) => return Ok(Some(at)),
+            None => {}
+        }
+    }
+    Ok(None)
 }
