@@ -6,4 +6,5 @@ pub mod WorthLemmas
 pub mod NumberLemmas
 pub mod OrderLemmas
 pub mod ItemLemmas
+pub mod RunLemmas
 mod Examples

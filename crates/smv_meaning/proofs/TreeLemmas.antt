@@ -295,7 +295,7 @@ behind_more n old slots slots' slot h e = (h.0 ++ slot ∷ [], e ∙ (ap (λ x. 
 pub behind_length : (n : ℕ) (old slots : List Slot) → SlotsBehind n old slots → length slots ≡ length old + n
 behind_length n old slots h = omega (arith, ap length h.1, length-append old h.0, h.2)
 
-below_or : (a b : ℕ) → a < b + 1 → (a < b) ⊎ (a ≡ b)
+pub below_or : (a b : ℕ) → a < b + 1 → (a < b) ⊎ (a ≡ b)
 below_or zero zero h = inr refl
 below_or zero (suc b) h = inl (omega arith)
 below_or (suc a) zero h = absurd (omega arith)

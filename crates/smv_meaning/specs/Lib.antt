@@ -14,3 +14,4 @@ pub mod Growing
 pub mod StepGrowing
 pub mod Checking
 pub mod Items
+pub mod RunCheck

@@ -4,6 +4,7 @@
 pub mod evaluation;
 mod items;
 pub mod least;
+mod check;
 mod entries;
 mod net;
 mod operators;

@@ -1,0 +1,67 @@
+-- Runs by number are runs of the program.
+use Rattle.std.proofs.Common.{◌≡◌, ℕ, zero, suc, ◌+◌, ◌<◌, Bool, true, false, List, [], ◌∷◌, ◌++◌, length, map, drop, get_or, Option, Some, None, refl, sym, ap, ◌∙◌, subst, arith, codes, ◌⊎◌, inl, inr}
+use Rattle.std.specs.Prelude.{slice_get, find}
+use Rattle.std.specs.Str.{bytes_eq}
+use Rattle.smv_ast.specs.declared.program.Module.{Module}
+use Rattle.smv_ast.specs.declared.program.Section.{Section}
+use Rattle.smv_ast.specs.declared.program.Program.{Program}
+use Rattle.smv_meaning.specs.declared.tree.Tree.{Tree}
+use Rattle.smv_meaning.specs.declared.tree.Row.{Row}
+use Rattle.smv_meaning.specs.declared.tree.Link.{Link}
+use Rattle.smv_meaning.specs.Value.{Name}
+use Rattle.std.specs.Option.{option_map}
+use Rattle.smv_ast.specs.declared.syntax.Span.{Span}
+use Rattle.smv_meaning.specs.declared.worth.Net.{Net}
+use Rattle.smv_meaning.specs.declared.items.View.{View}
+use Rattle.smv_meaning.specs.Runs.{first_some, or_else, broken_at, items, first_broken}
+use Rattle.smv_meaning.specs.Items.{seen_state}
+use Rattle.smv_meaning.specs.Instances.{Place, or_empty, module_at, instances}
+use Rattle.smv_meaning.specs.Tree.{next_place, places}
+use Rattle.smv_meaning.specs.Checking.{IsRight, stands, Tells}
+use Rattle.smv_meaning.specs.RunCheck.{sections_found, sections_named, sections_of_link, sections_at, broken_in_order}
+use Rattle.smv_meaning.proofs.WorthLemmas.{get_item}
+use Rattle.smv_meaning.proofs.TreeLemmas.{get_append, get_last, below_or}
+use Rattle.smv_meaning.specs.declared.value.Value.{Value}
+use Rattle.smv_meaning.specs.declared.run.RunState.{RunState}
+
+found_sections : (name : Name) (o : Option Module) → sections_found o ≡ (or_empty name o).sections
+found_sections name None = refl
+found_sections name (Some m) = refl
+
+link_sections : (program : Program) (ps : List Place) (link : Option Link) → sections_of_link program link ≡ sections_at program (next_place ps link)
+link_sections program ps None = found_sections (codes "main") (find (λ m. bytes_eq m.name (codes "main")) program.modules)
+link_sections program ps (Some link) = found_sections link.called.now (find (λ m. bytes_eq m.name link.called.now) program.modules)
+
+pub sections_is : (program : Program) (tree : Tree) (k : ℕ) (row : Row) → IsRight program tree → k < length tree.rows → row ≡ get_or tree.rows k row → sections_of_link program row.link ≡ sections_at program (stands tree k)
+sections_is program tree k row right h e =
+    link_sections program (places tree.rows) row.link ∙ ap (sections_at program) (sym (right.rows k row (get_item tree.rows k row h e)).stands)
+
+-- ---- the first broken item
+
+pub first_mapped : {A B C : Type 0} (f : B → Option C) (g : A → B) (xs : List A) → first_some f (map g xs) ≡ first_some (λ x. f (g x)) xs
+first_mapped f g [] = refl
+first_mapped f g (x ∷ xs) = ap (or_else (f (g x))) (first_mapped f g xs)
+
+-- in the order of the instances it is that of the program
+pub broken_is : (net : Net) (before : Option View) (now : View) (order : List ℕ) → map (stands net.tree.now) order ≡ instances net.program.now →
+    broken_in_order net before now order ≡ first_broken net.program.now (option_map seen_state before) (seen_state now)
+broken_is net before now order e =
+    let f : Place → Option Span = λ place. first_some (broken_at net.program.now (option_map seen_state before) (seen_state now) place) (items (module_at net.program.now place)) in
+    sym (first_mapped f (stands net.tree.now) order) ∙ ap (first_some f) e
+
+-- ---- tables
+
+-- the tables of the first so many states
+abbrev pub FirstTables : Net → List RunState → List (List (Option Value)) → ℕ → Type 0
+FirstTables net states tables n = (k : ℕ) (state : RunState) → k < n → slice_get states k ≡ Some state → (table : List (Option Value)) × (slice_get tables k ≡ Some table) × Tells net state table
+
+pub tables_more : (net : Net) (states : List RunState) (tables tables' : List (List (Option Value))) (n : ℕ) (state : RunState) (table : List (Option Value)) → slice_get states n ≡ Some state → length tables ≡ n → tables' ≡ tables ++ table ∷ [] → Tells net state table →
+    FirstTables net states tables n → FirstTables net states tables' (n + 1)
+tables_more net states tables tables' n state table e l p tells first k state' below g = elim (below_or k n below) [ inl h ↦ old h | inr h ↦ new h ]
+  where
+    old : k < n → (t : List (Option Value)) × (slice_get tables' k ≡ Some t) × Tells net state' t
+    old h = let f = first k state' h g in (f.0, ap (λ (xs : List (List (Option Value))). slice_get xs k) p ∙ get_append tables (table ∷ []) k f.0 f.1, f.2)
+    new : k ≡ n → (t : List (Option Value)) × (slice_get tables' k ≡ Some t) × Tells net state' t
+    new h =
+        let same : state ≡ state' = cc (subst (λ (x : ℕ). slice_get states x ≡ Some state') h g) in
+        (table, ap (λ (xs : List (List (Option Value))). slice_get xs k) p ∙ get_last tables table k (h ∙ sym l), subst (λ (x : RunState). Tells net x table) same tells)

@@ -1,0 +1,110 @@
+//! Whether a list of states is a run, and whether an expression is true in a state.
+
+ghost use Rattle.std.specs.Prelude.{◌≡◌, ◌<◌, ◌^◌, IfOk, IfSome, Some, length, map, slice_get};
+ghost use Rattle.std.specs.Option.{option_map};
+ghost use Rattle.smv_meaning.specs.Instances as instances;
+ghost use Rattle.smv_meaning.specs.Runs as spec;
+ghost use Rattle.smv_meaning.specs.Checking as checking;
+ghost use Rattle.smv_meaning.specs.Items as items;
+ghost use Rattle.smv_meaning.specs.RunCheck as check;
+
+use crate::items::{View, is_true_in, sections_broken};
+use crate::net::path_texts;
+use crate::order::order_of;
+use crate::run::{Run, RunAnswer, RunState};
+use crate::scope::scopes_of;
+use crate::standing::standing_of;
+use crate::tree::{Link, Tree, tree_of};
+use crate::value::Value;
+use crate::worth::{Net, worth_of};
+use smv_ast::{Expr, List, NoMemory, Program, Section, Span};
+use std::alloc::Global;
+
+/// The sections of the first module of a name; none where there is no module.
+fn sections_named<'p>(program: &'p Program, name: &str) -> &'p [Section]
+    ensures { result.now ≡ check.sections_named program.now name.now }
+{
+    for owner in program.modules.as_slice() {
+        if owner.name.as_str() == name {
+            return owner.sections.as_slice();
+        }
+    }
+    &[]
+}
+
+/// The sections of an instance of this link.
+fn sections_of_link<'p>(program: &'p Program, link: Option<Link>) -> &'p [Section]
+    ensures { result.now ≡ check.sections_of_link program.now link.entry }
+{
+    match link {
+        Some(link) => sections_named(program, link.called.as_str()),
+        None => sections_named(program, "main"),
+    }
+}
+
+/// The sections of an instance.
+fn sections_of<'p>(program: &'p Program, tree: &Tree, row: usize) -> &'p [Section]
+    requires right { checking.IsRight program.now tree.now }
+    requires row { row < length tree.now.rows }
+    ensures { result.now ≡ check.sections_at program.now (checking.stands tree.now row) }
+{
+    let rows = tree.rows.as_slice();
+    sections_of_link(program, rows[row].link)
+}
+
+/// The first item that is not met in a state and the one before it, if there is one.
+fn first_broken<'t>(
+    alloc: Global,
+    net: &'t Net<'t>,
+    order: &[usize],
+    before: Option<View<'t>>,
+    now: View<'t>,
+) -> Result<Option<Span>, NoMemory>
+    requires right { checking.IsRightNet net.now }
+    requires rows { checking.AreRows net.now.tree.now order.now }
+    requires before { IfSome before (items.IsView net.now) }
+    requires now { items.IsView net.now now }
+    ensures { IfOk result (λ b. b ≡ check.broken_in_order net.now before.entry now.entry order.now) }
+{
+    for row in order {
+        let sections = sections_of(net.program, net.tree, *row);
+        match sections_broken(alloc, net, *row, before, now, sections)? {
+            Some(at) => return Ok(Some(at)),
+            None => {}
+        }
+    }
+    Ok(None)
+}
+
+/// What each slot is worth in each of these states.
+fn tables_of(
+    alloc: Global,
+    net: &Net,
+    states: &[RunState],
+) -> Result<List<List<Option<Value>>>, NoMemory>
+    ensures { IfOk result (λ tables. check.AreTables net.now states.now tables) }
+{
+    let mut tables = List::new(alloc);
+    for state in states {
+        let table = worth_of(alloc, net, state)?;
+        tables.push(table)?;
+    }
+    Ok(tables)
+}
+
+/// The state of a number, with what each slot is worth in it.
+fn view_of<'t>(
+    states: &'t [RunState],
+    tables: &'t [List<Option<Value>>],
+    k: usize,
+) -> View<'t>
+    requires states { k < length states.now }
+    requires tables { k < length tables.now }
+    ensures written { slice_get states.now k ≡ Some result.written.now }
+    ensures table { slice_get tables.now k ≡ Some result.table.now }
+{
+    View {
+        written: &states[k],
+        table: tables[k].as_slice(),
+    }
+}
