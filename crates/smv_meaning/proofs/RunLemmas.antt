@@ -13,14 +13,17 @@ use Rattle.std.specs.Option.{option_map}
 use Rattle.smv_ast.specs.declared.syntax.Span.{Span}
 use Rattle.smv_meaning.specs.declared.worth.Net.{Net}
 use Rattle.smv_meaning.specs.declared.items.View.{View}
-use Rattle.smv_meaning.specs.Runs.{first_some, or_else, broken_at, items, first_broken}
-use Rattle.smv_meaning.specs.Items.{seen_state}
+use Rattle.smv_meaning.specs.Runs.{first_some, or_else, broken_at, items, first_broken, answer_from, state_of}
+use Rattle.smv_meaning.specs.Items.{seen_state, IsView}
 use Rattle.smv_meaning.specs.Instances.{Place, or_empty, module_at, instances}
 use Rattle.smv_meaning.specs.Tree.{next_place, places}
 use Rattle.smv_meaning.specs.Checking.{IsRight, stands, Tells}
-use Rattle.smv_meaning.specs.RunCheck.{sections_found, sections_named, sections_of_link, sections_at, broken_in_order}
+use Rattle.smv_meaning.specs.RunCheck.{sections_found, sections_named, sections_of_link, sections_at, broken_in_order, AreTables}
 use Rattle.smv_meaning.proofs.WorthLemmas.{get_item}
-use Rattle.smv_meaning.proofs.TreeLemmas.{get_append, get_last, below_or}
+use Rattle.smv_meaning.proofs.TreeLemmas.{get_append, get_last, get_within, below_or}
+use Rattle.smv_meaning.proofs.NumberLemmas.{get_at}
+use Rattle.smv_meaning.specs.declared.run.RunAnswer.{RunAnswer}
+use Rattle.smv_meaning.specs.declared.run.RunAnswer.TheVariants as answer
 use Rattle.smv_meaning.specs.declared.value.Value.{Value}
 use Rattle.smv_meaning.specs.declared.run.RunState.{RunState}
 
@@ -65,3 +68,40 @@ tables_more net states tables tables' n state table e l p tells first k state' b
     new h =
         let same : state ≡ state' = cc (subst (λ (x : ℕ). slice_get states x ≡ Some state') h g) in
         (table, ap (λ (xs : List (List (Option Value))). slice_get xs k) p ∙ get_last tables table k (h ∙ sym l), subst (λ (x : RunState). Tells net x table) same tells)
+
+-- ---- the answer
+
+abbrev pub Rest : Program → ℕ → Option View → List RunState → ℕ → RunAnswer
+Rest program step before states k = answer_from program step (option_map seen_state before) (map state_of (drop k states))
+
+pub drop_get : {A : Type 0} (xs : List A) (k : ℕ) (x : A) → slice_get xs k ≡ Some x → drop k xs ≡ x ∷ drop (k + 1) xs
+drop_get [] k x e = cc
+drop_get (y ∷ ys) zero x e = let s : y ≡ x = cc in ap (λ z. z ∷ ys) s
+drop_get (y ∷ ys) (suc k) x e = let s : suc k + 1 ≡ suc (k + 1) = omega arith in rw s (drop_get ys k x e)
+
+next_answer : (program : Program) (step : ℕ) (before : Option View) (states : List RunState) (k : ℕ) (state : RunState) → slice_get states k ≡ Some state →
+    Rest program step before states k ≡ elim (first_broken program (option_map seen_state before) (state_of state)) as (λ o. RunAnswer) [ Some at ↦ answer.Breaks step at | None ↦ answer_from program (suc step) (Some (state_of state)) (map state_of (drop (k + 1) states)) ]
+next_answer program step before states k state e = ap (λ xs. answer_from program step (option_map seen_state before) (map state_of xs)) (drop_get states k state e)
+
+pub answer_breaks : (program : Program) (step : ℕ) (before : Option View) (now : View) (states : List RunState) (k : ℕ) (at : Span) → slice_get states k ≡ Some now.written.now →
+    Some at ≡ first_broken program (option_map seen_state before) (seen_state now) → answer.Breaks step at ≡ Rest program step before states k
+answer_breaks program step before now states k at e b =
+    sym (next_answer program step before states k now.written.now e
+    ∙ ap (λ (o : Option Span). elim o as (λ o. RunAnswer) [ Some at ↦ answer.Breaks step at | None ↦ answer_from program (suc step) (Some (seen_state now)) (map state_of (drop (k + 1) states)) ]) (sym b))
+
+pub answer_goes : (program : Program) (step : ℕ) (before : Option View) (now : View) (states : List RunState) (k : ℕ) → slice_get states k ≡ Some now.written.now →
+    None ≡ first_broken program (option_map seen_state before) (seen_state now) → Rest program (step + 1) (Some now) states (k + 1) ≡ Rest program step before states k
+answer_goes program step before now states k e b =
+    let s : step + 1 ≡ suc step = omega arith in
+    ap (λ (n : ℕ). answer_from program n (Some (seen_state now)) (map state_of (drop (k + 1) states))) s
+    ∙ sym (next_answer program step before states k now.written.now e
+    ∙ ap (λ (o : Option Span). elim o as (λ o. RunAnswer) [ Some at ↦ answer.Breaks step at | None ↦ answer_from program (suc step) (Some (seen_state now)) (map state_of (drop (k + 1) states)) ]) (sym b))
+
+pub is_view : (net : Net) (view : View) (states : List RunState) (tables : List (List (Option Value))) (k : ℕ) → AreTables net states tables → slice_get states k ≡ Some view.written.now → slice_get tables k ≡ Some view.table.now → IsView net view
+is_view net view states tables k are e f =
+    let t = are k view.written.now e in
+    let same : t.0 ≡ view.table.now = cc (t.1, f) in
+    subst (λ (table : List (Option Value)). Tells net view.written.now table) same t.2
+
+pub table_within : (net : Net) (states : List RunState) (tables : List (List (Option Value))) (k : ℕ) → AreTables net states tables → k < length states → k < length tables
+table_within net states tables k are h = let s = get_at states k h in let t = are k s.0 s.1 in get_within tables k t.0 t.1

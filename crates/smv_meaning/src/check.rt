@@ -108,3 +108,47 @@ fn view_of<'t>(
         table: tables[k].as_slice(),
     }
 }
+
+/// Whether these states are a run, from what each slot is worth in them.
+fn run_answer<'t>(
+    alloc: Global,
+    net: &'t Net<'t>,
+    order: &[usize],
+    states: &'t [RunState],
+    tables: &'t [List<Option<Value>>],
+) -> Result<RunAnswer, NoMemory>
+    requires right { checking.IsRightNet net.now }
+    requires rows { checking.AreRows net.now.tree.now order.now }
+    requires order { map (checking.stands net.now.tree.now) order.now ≡ instances.instances net.now.program.now }
+    requires tables { check.AreTables net.now states.now tables.now }
+    requires short { length states.now < 2 ^ 32 }
+    ensures { IfOk result (λ a. a ≡ spec.answer_of net.now.program.now states.now) }
+{
+    let mut before = None;
+    let mut step: u32 = 0;
+    for k in 0..states.len() {
+        let now = view_of(states, tables, k);
+        match first_broken(alloc, net, order, before, now)? {
+            Some(item) => return Ok(RunAnswer::Breaks { step, item }),
+            None => {}
+        }
+        before = Some(now);
+        step += 1;
+    }
+    Ok(RunAnswer::Run)
+}
+
+/// Whether these states are a run of the program that this net has.
+fn run_in<'t>(
+    alloc: Global,
+    net: &'t Net<'t>,
+    states: &'t [RunState],
+) -> Result<RunAnswer, NoMemory>
+    requires right { checking.IsRightNet net.now }
+    requires short { length states.now < 2 ^ 32 }
+    ensures { IfOk result (λ a. a ≡ spec.answer_of net.now.program.now states.now) }
+{
+    let order = order_of(alloc, net.program, net.tree)?;
+    let tables = tables_of(alloc, net, states)?;
+    run_answer(alloc, net, order.as_slice(), states, tables.as_slice())
+}
