@@ -7,17 +7,20 @@ ghost use Rattle.smv_meaning.specs.Runs as spec;
 ghost use Rattle.smv_meaning.specs.Checking as checking;
 ghost use Rattle.smv_meaning.specs.Items as items;
 ghost use Rattle.smv_meaning.specs.RunCheck as check;
+ghost use Rattle.smv_meaning.specs.Entries.{scope_seen, scopes_of as scopes_of_program};
+ghost use Rattle.smv_meaning.specs.Slots as slots;
+ghost use Rattle.smv_meaning.specs.Worth as worth;
 
-use crate::items::{View, is_true_in, sections_broken};
+use crate::items::{View, sections_broken};
 use crate::net::path_texts;
 use crate::order::order_of;
 use crate::run::{Run, RunAnswer, RunState};
-use crate::scope::scopes_of;
+use crate::scope::{Scope, scopes_of};
 use crate::standing::standing_of;
 use crate::tree::{Link, Tree, tree_of};
 use crate::value::Value;
 use crate::worth::{Net, worth_of};
-use smv_ast::{Expr, List, NoMemory, Program, Section, Span};
+use smv_ast::{List, NoMemory, Program, Section, Span, Text};
 use std::alloc::Global;
 
 /// The sections of the first module of a name; none where there is no module.
@@ -151,4 +154,71 @@ fn run_in<'t>(
     let order = order_of(alloc, net.program, net.tree)?;
     let tables = tables_of(alloc, net, states)?;
     run_answer(alloc, net, order.as_slice(), states, tables.as_slice())
+}
+
+fn run_of_net(
+    alloc: Global,
+    program: &Program,
+    tree: &Tree,
+    standing: &[Option<usize>],
+    texts: &[Text],
+    states: &[RunState],
+) -> Result<RunAnswer, NoMemory>
+    requires right { checking.IsRight program.now tree.now }
+    requires has { slots.HasSlots tree.now }
+    requires standing { slots.TellsStanding tree.now standing.now }
+    requires texts { worth.SpellsNames tree.now.rows texts.now }
+    requires short { length states.now < 2 ^ 32 }
+    ensures { IfOk result (λ a. a ≡ spec.answer_of program.now states.now) }
+{
+    let net = Net {
+        program,
+        tree,
+        standing,
+        texts,
+    };
+    run_in(alloc, &net, states)
+}
+
+fn run_of_tree(
+    alloc: Global,
+    program: &Program,
+    tree: &Tree,
+    states: &[RunState],
+) -> Result<RunAnswer, NoMemory>
+    requires right { checking.IsRight program.now tree.now }
+    requires short { length states.now < 2 ^ 32 }
+    ensures { IfOk result (λ a. a ≡ spec.answer_of program.now states.now) }
+{
+    let standing = standing_of(alloc, tree)?;
+    let texts = path_texts(alloc, tree.rows.as_slice())?;
+    run_of_net(alloc, program, tree, standing.as_slice(), texts.as_slice(), states)
+}
+
+fn run_of_scopes(
+    alloc: Global,
+    program: &Program,
+    scopes: &[Scope],
+    states: &[RunState],
+) -> Result<RunAnswer, NoMemory>
+    requires scopes { map scope_seen scopes.now ≡ scopes_of_program program.now }
+    requires short { length states.now < 2 ^ 32 }
+    ensures { IfOk result (λ a. a ≡ spec.answer_of program.now states.now) }
+{
+    match tree_of(alloc, program, scopes, usize::MAX)? {
+        Some(tree) => run_of_tree(alloc, program, &tree, states),
+        // No table in memory has that many instances.
+        None => Err(NoMemory),
+    }
+}
+
+/// Whether a list of states is a run of a program, and else the first item that breaks, in the order
+/// of the instances and of the text, at the first state where one does. The only error is want of
+/// memory.
+pub fn check_run(alloc: Global, program: &Program, run: &Run) -> Result<RunAnswer, NoMemory>
+    requires { length run.now.states < 2 ^ 32 }
+    ensures { IfOk result (λ a. a ≡ spec.answer_of program.now run.now.states) }
+{
+    let scopes = scopes_of(alloc, program)?;
+    run_of_scopes(alloc, program, scopes.as_slice(), run.states.as_slice())
 }

@@ -17,5 +17,6 @@ mod tree;
 mod value;
 mod worth;
 
+pub use check::check_run;
 pub use run::{Named, Run, RunAnswer, RunState};
 pub use value::{Value, first_value};

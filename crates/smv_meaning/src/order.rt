@@ -12,7 +12,7 @@ use sqlite_items::at;
 use std::alloc::Global;
 
 /// The slot of the entry of a number of an instance.
-fn slot_in<'a>(tree: &Tree<'a>, row: usize, k: usize) -> Option<Slot<'a>>
+fn slot_in<'s, 'a>(tree: &Tree<'s, 'a>, row: usize, k: usize) -> Option<Slot<'a>>
     ensures { result ≡ spec.slot_in tree.now row k }
 {
     let slots = tree.slots.as_slice();

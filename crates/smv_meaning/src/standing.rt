@@ -76,12 +76,12 @@ fn behind(tree: &Tree, table: &[Option<usize>], meant: Meant) -> Option<usize>
 
 /// What makes an instance known behind each slot.
 #[derive(Drop)]
-struct Stands<'t, 'a> {
-    tree: &'t Tree<'a>,
+struct Stands<'t> {
+    tree: &'t Tree<'t, 't>,
     ghost has: { slots.HasSlots tree.now },
 }
 
-impl<'t, 'a> Step<usize> for Stands<'t, 'a> {
+impl<'t> Step<usize> for Stands<'t> {
     ghost use Rattle.smv_meaning.specs.Slots.{stand_slots};
     ghost use Rattle.smv_meaning.specs.StepGrowing.{stand_slots_grows};
 

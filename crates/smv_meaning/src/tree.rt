@@ -25,9 +25,9 @@ pub struct Link<'a> {
 
 /// An instance, with the names of its module. That of `main` has no link.
 #[derive(Clone, Copy, Drop)]
-pub struct Row<'a> {
+pub struct Row<'s, 'a> {
     pub link: Option<Link<'a>>,
-    pub entries: &'a [Entry<'a>],
+    pub entries: &'s [Entry<'a>],
     /// How many instances stand around it.
     pub depth: usize,
 }
@@ -67,7 +67,7 @@ fn formal_by<'a>(outer: usize, meaning: Option<Meaning<'a>>, k: usize) -> Meant<
 
 /// What the formal of a number is in an instance that is declared so.
 #[tactic(auto, using(crate::proofs::TreeLemmas::entries_at_index))]
-fn formal_of<'a>(rows: &[Row<'a>], link: Link<'a>, k: usize) -> Meant<'a>
+fn formal_of<'s, 'a>(rows: &[Row<'s, 'a>], link: Link<'a>, k: usize) -> Meant<'a>
     requires { link.outer < length rows.now }
     ensures { tree.meant_seen result ≡ tree.formal_linked rows.now link.entry k }
 {
@@ -77,9 +77,9 @@ fn formal_of<'a>(rows: &[Row<'a>], link: Link<'a>, k: usize) -> Meant<'a>
 
 /// What a name of this meaning is in an instance. An instance that it declares is to have the number
 /// `next`, if instances go `deeper`.
-fn meant_here<'a>(
-    rows: &[Row<'a>],
-    row: Row<'a>,
+fn meant_here<'s, 'a>(
+    rows: &[Row<'s, 'a>],
+    row: Row<'s, 'a>,
     deeper: bool,
     next: usize,
     meaning: Meaning<'a>,
@@ -123,13 +123,13 @@ fn called_by<'a>(deeper: bool, meaning: Meaning<'a>) -> Option<&'a Text>
 }
 
 /// Takes the next name of an instance into the table, and the instance that it declares, if it does.
-fn grow<'a>(
+fn grow<'s, 'a>(
     program: &Program,
-    scopes: &'a [Scope<'a>],
-    rows: &mut List<Row<'a>>,
+    scopes: &'s [Scope<'a>],
+    rows: &mut List<Row<'s, 'a>>,
     slots: &mut List<Slot<'a>>,
     r: usize,
-    row: Row<'a>,
+    row: Row<'s, 'a>,
     entry: Entry<'a>,
 ) -> Result<(), NoMemory>
     requires scopes { map scope_seen scopes.now ≡ scopes_of program.now }
@@ -168,13 +168,13 @@ fn grow<'a>(
 }
 
 /// Takes the names of an instance into the table, and the instances that it declares.
-fn expand<'a>(
+fn expand<'s, 'a>(
     program: &Program,
-    scopes: &'a [Scope<'a>],
-    rows: &mut List<Row<'a>>,
+    scopes: &'s [Scope<'a>],
+    rows: &mut List<Row<'s, 'a>>,
     slots: &mut List<Slot<'a>>,
     r: usize,
-    row: Row<'a>,
+    row: Row<'s, 'a>,
 ) -> Result<(), NoMemory>
     requires scopes { map scope_seen scopes.now ≡ scopes_of program.now }
     requires rows { tree.RightRows program.now rows.old }
@@ -193,20 +193,20 @@ fn expand<'a>(
 
 /// The instances of a program by number, and their names.
 #[derive(Drop)]
-pub struct Tree<'a> {
-    pub rows: List<Row<'a>>,
+pub struct Tree<'s, 'a> {
+    pub rows: List<Row<'s, 'a>>,
     /// The number of the first slot of each row.
     pub firsts: List<usize>,
     pub slots: List<Slot<'a>>,
 }
 
 /// The instances of a program; none where there are `most` or more.
-pub fn tree_of<'a>(
+pub fn tree_of<'s, 'a>(
     alloc: Global,
     program: &Program,
-    scopes: &'a [Scope<'a>],
+    scopes: &'s [Scope<'a>],
     most: usize,
-) -> Result<Option<Tree<'a>>, NoMemory>
+) -> Result<Option<Tree<'s, 'a>>, NoMemory>
     requires scopes { map scope_seen scopes.now ≡ scopes_of program.now }
     ensures { IfOk result (λ t. IfSome t (λ t. tree.RightTree program.now t.rows t.firsts t.slots)) }
 {

@@ -38,7 +38,7 @@ fn written_value_of(
 #[derive(Drop)]
 pub struct Net<'t> {
     pub program: &'t Program,
-    pub tree: &'t Tree<'t>,
+    pub tree: &'t Tree<'t, 't>,
     /// The instance for which each slot stands.
     pub standing: &'t [Option<usize>],
     /// The text of the path of each instance.
