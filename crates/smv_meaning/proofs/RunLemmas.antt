@@ -1,6 +1,6 @@
 -- Runs by number are runs of the program.
-use Rattle.std.proofs.Common.{◌≡◌, ℕ, zero, suc, ◌+◌, ◌<◌, Bool, true, false, List, [], ◌∷◌, ◌++◌, length, map, drop, get_or, Option, Some, None, refl, sym, ap, ◌∙◌, subst, arith, codes, ◌⊎◌, inl, inr}
-use Rattle.std.specs.Prelude.{slice_get, find}
+use Rattle.std.proofs.Common.{◌≡◌, ℕ, zero, suc, ◌+◌, ◌<◌, Bool, true, false, List, [], ◌∷◌, ◌++◌, length, map, drop, get_or, Option, Some, None, refl, sym, ap, ◌∙◌, subst, arith, codes, ◌⊎◌, inl, inr, append_assoc, cond}
+use Rattle.std.specs.Prelude.{slice_get, find, All}
 use Rattle.std.specs.Str.{bytes_eq}
 use Rattle.smv_ast.specs.declared.program.Module.{Module}
 use Rattle.smv_ast.specs.declared.program.Section.{Section}
@@ -13,12 +13,18 @@ use Rattle.std.specs.Option.{option_map}
 use Rattle.smv_ast.specs.declared.syntax.Span.{Span}
 use Rattle.smv_meaning.specs.declared.worth.Net.{Net}
 use Rattle.smv_meaning.specs.declared.items.View.{View}
-use Rattle.smv_meaning.specs.Runs.{first_some, or_else, broken_at, items, first_broken, answer_from, state_of}
-use Rattle.smv_meaning.specs.Items.{seen_state, IsView}
-use Rattle.smv_meaning.specs.Instances.{Place, or_empty, module_at, instances}
-use Rattle.smv_meaning.specs.Tree.{next_place, places}
-use Rattle.smv_meaning.specs.Checking.{IsRight, stands, Tells}
-use Rattle.smv_meaning.specs.RunCheck.{sections_found, sections_named, sections_of_link, sections_at, broken_in_order, AreTables}
+use Rattle.smv_meaning.specs.Runs.{path_text, first_some, or_else, broken_at, items, first_broken, answer_from, state_of}
+use Rattle.smv_meaning.specs.Items.{seen_state, IsView, true_in}
+use Rattle.smv_meaning.specs.Value.{is_true}
+use Rattle.smv_meaning.specs.Values.{value_in}
+use Rattle.smv_ast.specs.declared.syntax.Expr.{Expr}
+use Rattle.smv_meaning.specs.Instances.{Place, or_empty, module_at, instances, place_text, path_of}
+use Rattle.smv_meaning.specs.Tree.{next_place, place_at, places}
+use Rattle.smv_meaning.specs.Worth.{AreLinked, TellsPaths}
+use Rattle.smv_ast.specs.PrintedExpr.{joined, each_after}
+use Rattle.std.proofs.lemmas.List.{append-nil}
+use Rattle.smv_meaning.specs.Checking.{IsRight, AreRows, stands, Tells}
+use Rattle.smv_meaning.specs.RunCheck.{sections_found, sections_named, sections_of_link, sections_at, broken_in_order, AreTables, text_of_place, named_in, net_holds}
 use Rattle.smv_meaning.proofs.WorthLemmas.{get_item}
 use Rattle.smv_meaning.proofs.TreeLemmas.{get_append, get_last, get_within, below_or}
 use Rattle.smv_meaning.proofs.NumberLemmas.{get_at}
@@ -105,3 +111,59 @@ is_view net view states tables k are e f =
 
 pub table_within : (net : Net) (states : List RunState) (tables : List (List (Option Value))) (k : ℕ) → AreTables net states tables → k < length states → k < length tables
 table_within net states tables k are h = let s = get_at states k h in let t = are k s.0 s.1 in get_within tables k t.0 t.1
+
+-- ---- instances by their texts
+
+place_text_next : (ps : List Place) (link : Option Link) → place_text (next_place ps link) ≡ text_of_place link (path_text (path_of (next_place ps link)))
+place_text_next ps None = append-nil (codes "main")
+place_text_next ps (Some link) = at (path_of (place_at ps link.outer))
+  where
+    at : (xs : List Name) → joined (codes ".") (codes "main" ∷ (xs ++ link.name.now ∷ [])) ≡ codes "main" ++ codes "." ++ path_text (xs ++ link.name.now ∷ [])
+    at [] = sym (append_assoc (codes "main") (codes ".") (link.name.now ++ []))
+    at (x ∷ xs) = sym (append_assoc (codes "main") (codes ".") (x ++ each_after (codes ".") (xs ++ link.name.now ∷ [])))
+
+pub place_text_is : (tree : Tree) (texts : List (List ℕ)) (k : ℕ) (row : Row) → AreLinked tree.rows → slice_get tree.rows k ≡ Some row → place_text (stands tree k) ≡ text_of_place row.link (path_text (path_of (stands tree k)))
+place_text_is tree texts k row linked e =
+    let s = (linked k row e).stands in
+    subst (λ (p : Place). place_text p ≡ text_of_place row.link (path_text (path_of p))) (sym s) (place_text_next (places tree.rows) row.link)
+
+-- the text of a row that was looked at
+pub named_is : (tree : Tree) (texts : List (List ℕ)) (k : ℕ) (row : Row) (text instance : List ℕ) → AreLinked tree.rows → TellsPaths tree.rows texts → k < length tree.rows → row ≡ get_or tree.rows k row → text ≡ get_or texts k text →
+    bytes_eq (text_of_place row.link text) instance ≡ bytes_eq (place_text (stands tree k)) instance
+named_is tree texts k row text instance linked tells h e f =
+    let at = get_item tree.rows k row h e in
+    let told = tells k row at in
+    let here = get_item texts k text (get_within texts k _ told) f in
+    let same : text ≡ path_text (path_of (stands tree k)) = cc (here, told) in
+    ap (λ (t : List ℕ). bytes_eq (text_of_place row.link t) instance) same ∙ ap (λ (t : List ℕ). bytes_eq t instance) (sym (place_text_is tree texts k row linked at))
+
+find_mapped : (p : Place → Bool) (f : ℕ → Place) (xs : List ℕ) → find p (map f xs) ≡ option_map f (find (λ x. p (f x)) xs)
+find_mapped p f [] = refl
+find_mapped p f (x ∷ xs) = at (find_mapped p f xs) (p (f x))
+  where
+    at : find p (map f xs) ≡ option_map f (find (λ x. p (f x)) xs) → (b : Bool) → cond b (Some (f x)) (find p (map f xs)) ≡ option_map f (cond b (Some x) (find (λ x. p (f x)) xs))
+    at h true = refl
+    at h false = h
+
+found_below : (q : ℕ → Bool) (xs : List ℕ) (n r : ℕ) → All (λ row. row < n) xs → find q xs ≡ Some r → r < n
+found_below q [] n r all e = cc
+found_below q (x ∷ xs) n r all e = at (found_below q xs n r (λ k d h. all (suc k) d (omega arith))) (q x) e
+  where
+    at : (find q xs ≡ Some r → r < n) → (b : Bool) → cond b (Some x) (find q xs) ≡ Some r → r < n
+    at more true e = let s : x ≡ r = cc in subst (λ (y : ℕ). y < n) s (all 0 0 (omega arith))
+    at more false e = more e
+
+pub row_below : (tree : Tree) (order : List ℕ) (text : List ℕ) (row : ℕ) → AreRows tree order → named_in tree text order ≡ Some row → row < length tree.rows
+row_below tree order text row rows e = found_below (λ row. bytes_eq (place_text (stands tree row)) text) order (length tree.rows) row rows e
+
+holds_is : (net : Net) (view : View) (e : Expr) (text : List ℕ) (order : List ℕ) (o : Option ℕ) → map (stands net.tree.now) order ≡ instances net.program.now → named_in net.tree.now text order ≡ o →
+    elim (option_map (stands net.tree.now) o) as (λ q. Bool) [ None ↦ false | Some place ↦ is_true (value_in net.program.now (seen_state view) (seen_state view) place e) ] ≡ net_holds net view e text
+holds_is net view e text order o same named =
+    ap (λ (q : Option Place). elim q as (λ q. Bool) [ None ↦ false | Some place ↦ is_true (value_in net.program.now (seen_state view) (seen_state view) place e) ])
+        (ap (option_map (stands net.tree.now)) (sym named) ∙ (sym (find_mapped (λ place. bytes_eq (place_text place) text) (stands net.tree.now) order) ∙ ap (find (λ place. bytes_eq (place_text place) text)) same))
+
+pub holds_some : (net : Net) (view : View) (e : Expr) (text : List ℕ) (order : List ℕ) (row : ℕ) → map (stands net.tree.now) order ≡ instances net.program.now → named_in net.tree.now text order ≡ Some row → true_in net row view view e ≡ net_holds net view e text
+holds_some net view e text order row = holds_is net view e text order (Some row)
+
+pub holds_none : (net : Net) (view : View) (e : Expr) (text : List ℕ) (order : List ℕ) → map (stands net.tree.now) order ≡ instances net.program.now → named_in net.tree.now text order ≡ None → false ≡ net_holds net view e text
+holds_none net view e text order = holds_is net view e text order None

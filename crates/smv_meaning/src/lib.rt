@@ -11,6 +11,7 @@ mod operators;
 mod order;
 mod run;
 mod scope;
+mod spec;
 mod standing;
 mod symbols;
 mod tree;
@@ -18,5 +19,6 @@ mod value;
 mod worth;
 
 pub use check::check_run;
+pub use spec::spec_holds;
 pub use run::{Named, Run, RunAnswer, RunState};
 pub use value::{Value, first_value};

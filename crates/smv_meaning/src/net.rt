@@ -57,7 +57,8 @@ fn row_text(
 /// The texts of the paths of the instances.
 pub fn path_texts(alloc: Global, rows: &[Row]) -> Result<List<Text>, NoMemory>
     requires { worth.AreLinked rows.now }
-    ensures { IfOk result (λ texts. worth.SpellsNames rows.now texts) }
+    ensures names { IfOk result (λ texts. worth.SpellsNames rows.now texts) }
+    ensures paths { IfOk result (λ texts. worth.TellsPaths rows.now texts) }
 {
     let mut texts = List::new(alloc);
     for row in rows {

@@ -24,5 +24,8 @@ loop-row-preserved c =
       told = tells_more c.args.rows.now c.loop-row.texts c.push.new.self c.loop-row.row-index c.row-item.result c.in_ok-text.text c.requires at c.loop-row.invariant.count is c.in_ok-push.ensures.ok c.loop-row.invariant.told
     }
 
-pub returns : goal.returns
-returns c = spells c.args.rows.now c.loop-row.texts c.requires (λ k row e. c.loop-row.invariant.told k row (omega (arith, get_within c.args.rows.now k row e)) e)
+pub returns-clause-names : goal.returns-clause-names
+returns-clause-names c = spells c.args.rows.now c.loop-row.texts c.requires (λ k row e. c.loop-row.invariant.told k row (omega (arith, get_within c.args.rows.now k row e)) e)
+
+pub returns-clause-paths : goal.returns-clause-paths
+returns-clause-paths c = λ k row e. c.loop-row.invariant.told k row (omega (arith, get_within c.args.rows.now k row e)) e
