@@ -22,3 +22,6 @@ pub use check::check_run;
 pub use spec::spec_holds;
 pub use run::{Named, Run, RunAnswer, RunState};
 pub use value::{Value, first_value};
+
+#[cfg(test)]
+mod tests;
