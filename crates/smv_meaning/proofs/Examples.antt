@@ -1,12 +1,12 @@
 -- The definitions at small examples.
-use Rattle.std.proofs.Common.{◌≡◌, ℕ, List, [], ◌∷◌, refl, codes, true, false, pos, Option, Some, None}
+use Rattle.std.proofs.Common.{◌≡◌, ℕ, [], ◌∷◌, refl, codes, true, false, pos, Some}
 use Rattle.smv_ast.specs.declared.syntax.Expr.{Expr-F}
 use Rattle.smv_ast.specs.declared.syntax.Choice.{Choice-F}
 use Rattle.smv_ast.specs.declared.syntax.SmvType.TheVariants as type
 use Rattle.smv_ast.specs.declared.syntax.Op.TheVariants as op
 use Rattle.smv_ast.specs.Places.{nowhere}
 use Rattle.smv_meaning.specs.declared.value.Value.{Value}
-use Rattle.smv_meaning.specs.declared.value.Value.TheVariants.{Boolean, Number, Symbol}
+use Rattle.smv_meaning.specs.declared.value.Value.TheVariants.{Boolean, Number}
 use Rattle.smv_meaning.specs.Value.{Name, first_value, all_values}
 use Rattle.smv_meaning.specs.Senses.{Reading, Sense, BranchSense, expr_sense, choice_sense}
 

@@ -1,15 +1,12 @@
 -- What an item asks of numbers, it asks of the instances for which they stand.
-use Rattle.std.proofs.Common.{◌≡◌, ℕ, ◌<◌, ◌+◌, drop, get_or, Bool, true, false, List, [], ◌∷◌, ◌++◌, length, Option, Some, None, refl, sym, ap, ◌∙◌, subst, arith}
-use Rattle.std.specs.Prelude.{slice_get}
+use Rattle.std.proofs.Common.{◌≡◌, ℕ, ◌<◌, ◌+◌, drop, get_or, List, [], ◌∷◌, ◌++◌, length, Option, Some, None, refl, ap, ◌∙◌}
 use Rattle.smv_ast.specs.declared.syntax.Expr.{Expr}
 use Rattle.smv_meaning.specs.declared.value.Value.{Value}
-use Rattle.smv_meaning.specs.declared.run.RunState.{RunState}
 use Rattle.smv_meaning.specs.declared.tree.Row.{Row}
 use Rattle.smv_meaning.specs.declared.worth.Net.{Net}
 use Rattle.smv_meaning.specs.declared.items.View.{View}
-use Rattle.smv_meaning.specs.Value.{Name, and_then, is_true}
+use Rattle.smv_meaning.specs.Value.{Name, and_then}
 use Rattle.smv_meaning.specs.Senses.{Reading, sense_of}
-use Rattle.smv_meaning.specs.Instances.{path_of}
 use Rattle.smv_meaning.specs.Values.{reading_in}
 use Rattle.smv_meaning.specs.Runs.{state_of, first_some, or_else}
 use Rattle.smv_meaning.specs.Worth.{row_reading, variable_at}

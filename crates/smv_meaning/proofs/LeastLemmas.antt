@@ -1,8 +1,8 @@
 -- The table comes to the least fixed point.
 use Rattle.std.proofs.Common.{◌≡◌, ℕ, zero, suc, ◌+◌, ◌-◌, ◌^◌, ◌<◌, ◌≤◌, List, [], ◌∷◌, length, Option, Some, None, refl, sym, ap, ◌∙◌, subst, arith, get_or, ◌⊎◌, inl, inr}
-use Rattle.std.specs.Prelude.{IsSome, slice_get, slice_set, sum_by}
+use Rattle.std.specs.Prelude.{IsSome, slice_set}
 use Rattle.std.proofs.lemmas.List.Sums.{sum_by-set, sum_by-cons}
-use Rattle.std.proofs.lemmas.Option.{slice_get-get_or, slice_get_past}
+use Rattle.std.proofs.lemmas.Option.{slice_get-get_or}
 use Rattle.smv_meaning.specs.Value.{and_then}
 use Rattle.smv_meaning.specs.Least.{entry, one, filled, Under, most, known, least, IsRight, IsClosed}
 
@@ -87,6 +87,7 @@ module _ {A : Type 0} where
         below_or a zero = inr (omega arith)
         below_or zero (suc b) = inl (omega arith)
         below_or (suc a) (suc b) = elim (below_or a b) [ inl h ↦ inl (omega arith) | inr h ↦ inr (omega arith) ]
+
         past : count ≤ k → IsClosed step table k
         past h p e = let m : None ≡ Some p = sym (none (entry table) k h) ∙ e in cc
 
@@ -95,8 +96,8 @@ module _ {A : Type 0} where
     unfolding most
     finished table count small right closed same none k =
         agree (entry table k) (least step k)
-            (λ p e. let r = known-more (most - filled table) (filled table) k p (right k p e) in let i : (most - filled table) + filled table ≡ most = omega (arith, filled_length table) in subst (λ (x : ℕ). known step x k ≡ Some p) i r)
-            (λ p e. all-known table (anywhere table count closed same none) most k p e)
+        (λ p e. let r = known-more (most - filled table) (filled table) k p (right k p e) in let i : (most - filled table) + filled table ≡ most = omega (arith, filled_length table) in subst (λ (x : ℕ). known step x k ≡ Some p) i r)
+        (λ p e. all-known table (anywhere table count closed same none) most k p e)
 
   pub nothing-right : (step : (ℕ → Option A) → ℕ → Option A) (table : List (Option A)) → filled table ≡ 0 → IsRight step table
   nothing-right step table e k p h = absurd (never table k p e h)

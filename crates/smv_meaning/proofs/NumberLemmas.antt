@@ -1,5 +1,5 @@
 -- What is so of the numbers of a right table is so of the instances for which they stand.
-use Rattle.std.proofs.Common.{◌≡◌, ℕ, zero, suc, ◌+◌, ◌<◌, ◌≤◌, Bool, true, false, List, [], ◌∷◌, ◌++◌, length, Option, Some, None, refl, sym, ap, ◌∙◌, subst, arith, ◌⊎◌, inl, inr, cond}
+use Rattle.std.proofs.Common.{◌≡◌, ℕ, zero, suc, ◌+◌, ◌<◌, Bool, true, false, List, [], ◌∷◌, ◌++◌, length, Option, Some, None, refl, sym, ap, ◌∙◌, subst, arith, cond}
 use Rattle.std.specs.Prelude.{slice_get, find}
 use Rattle.std.specs.Option.{option_map}
 use Rattle.std.specs.Str.{bytes_eq}
@@ -14,16 +14,16 @@ use Rattle.smv_meaning.specs.declared.tree.Slot.{Slot}
 use Rattle.smv_meaning.specs.declared.value.Value.{Value}
 use Rattle.smv_meaning.specs.declared.run.RunState.{RunState}
 use Rattle.smv_meaning.specs.Value.{Name, and_then}
-use Rattle.smv_meaning.specs.Least.{known, least, most, entry}
-use Rattle.smv_meaning.specs.Paths.{Spot, Meant, Standing, IsVariable, IsInstance, IsDefine, IsFormal, IsNothing, walked, stood_for, behind, stand_step, standing, leads_by, leads}
+use Rattle.smv_meaning.specs.Least.{known, most}
+use Rattle.smv_meaning.specs.Paths.{Spot, Meant, Standing, IsVariable, IsInstance, IsDefine, IsFormal, IsNothing, walked, stood_for, behind, stand_step, standing, leads}
 use Rattle.smv_meaning.specs.Instances.{Entry, Meaning, Place, meant_at, meant_in as placed_meant, path_of, entries, module_at}
 use Rattle.smv_meaning.specs.Entries.{first_place, meaning_among}
 use Rattle.smv_meaning.specs.Senses.{Reading, sense_of}
-use Rattle.smv_meaning.specs.Values.{Worth, State, symbol_of, worth_at, reading_by, read_by, worth_of, worth_step, worth_in, variable_in, reading_in}
+use Rattle.smv_meaning.specs.Values.{Worth, symbol_of, worth_at, reading_by, read_by, worth_of, worth_step, worth_in, variable_in, reading_in}
 use Rattle.smv_meaning.specs.Runs.{state_of}
-use Rattle.smv_meaning.specs.Tree.{entries_at, place_at, places, placed, InRange, meant_seen, RightRows, RightSlot, RightSlots, RightTree}
-use Rattle.smv_meaning.specs.Slots.{slot_of, spot_of, meant_in, by_slot, HasSlots}
-use Rattle.smv_meaning.specs.Worth.{IsLinked, AreLinked, variable_at, TellsWorth, row_reading}
+use Rattle.smv_meaning.specs.Tree.{entries_at, place_at, places, placed, InRange, meant_seen, RightTree}
+use Rattle.smv_meaning.specs.Slots.{slot_of, spot_of, meant_in, HasSlots}
+use Rattle.smv_meaning.specs.Worth.{AreLinked, variable_at, TellsWorth, row_reading}
 use Rattle.smv_meaning.proofs.TreeLemmas.{get_within, row_at, names_at}
 
 pub get_at : {A : Type 0} (xs : List A) (k : ℕ) → k < length xs → (a : A) × (slice_get xs k ≡ Some a)
@@ -52,8 +52,9 @@ found (e ∷ es) name j h = at (found es name) (bytes_eq e.name name) refl h
           entry = f.entry;
           at = f.at;
           named = f.named;
-          meaning = ap (λ (t : Bool). and_then (cond t (Some e) (find (λ e. bytes_eq e.name name) es)) (λ e. Some e.meaning)) b ∙ f.meaning
+          meaning = ap (λ (t : Bool). and_then (cond t (Some e) (find (λ e. bytes_eq e.name name) es)) (λ e. Some e.meaning)) b ∙ f.meaning;
         })
+
     at : ((j : ℕ) → first_place name es ≡ Some j → Found es name j) → (b : Bool) → bytes_eq e.name name ≡ b → cond b (Some 0) (option_map suc (first_place name es)) ≡ Some j → Found (e ∷ es) name j
     at more true b h =
         let s : 0 ≡ j = cc in
@@ -61,7 +62,7 @@ found (e ∷ es) name j h = at (found es name) (bytes_eq e.name name) refl h
           entry = e;
           at = refl;
           named = (bytes_eq-Decides e.name name).0 b;
-          meaning = ap (λ (t : Bool). and_then (cond t (Some e) (find (λ e. bytes_eq e.name name) es)) (λ e. Some e.meaning)) b
+          meaning = ap (λ (t : Bool). and_then (cond t (Some e) (find (λ e. bytes_eq e.name name) es)) (λ e. Some e.meaning)) b;
         })
     at more false b h = behind_it more (first_place name es) refl b h
 
@@ -72,6 +73,7 @@ not_found (e ∷ es) name h = at (not_found es name) (bytes_eq e.name name) refl
     inner : (o : Option ℕ) → option_map suc o ≡ None → o ≡ None
     inner None h = refl
     inner (Some i) h = cc
+
     at : (first_place name es ≡ None → meaning_among es name ≡ None) → (b : Bool) → bytes_eq e.name name ≡ b → cond b (Some 0) (option_map suc (first_place name es)) ≡ None → meaning_among (e ∷ es) name ≡ None
     at more true b h = cc
     at more false b h = ap (λ (t : Bool). and_then (cond t (Some e) (find (λ e. bytes_eq e.name name) es)) (λ e. Some e.meaning)) b ∙ more (inner (first_place name es) h)
@@ -114,8 +116,9 @@ module _ (program : Program) (tree : Tree) (right : RightTree program tree.rows 
             meaning = e.entry.meaning;
             among = e.meaning;
             meant = s.2.meant ∙ ap (λ (x : Name). placed_meant program (stands spot.place) x e.entry.meaning) e.named;
-            range = s.2.range
+            range = s.2.range;
           }
+
       with_first : (o : Option ℕ) → slice_get tree.firsts spot.place ≡ o → and_then o (λ first. option_map (λ j. first + j) (first_place spot.name (entries_at tree.rows spot.place))) ≡ Some k → Slotted spot k
       with_first None f h = cc
       with_first (Some first) f h = with_place first f (first_place spot.name (entries_at tree.rows spot.place)) refl h
@@ -136,8 +139,10 @@ module _ (program : Program) (tree : Tree) (right : RightTree program tree.rows 
     where
       names : entries_at tree.rows r ≡ entries (module_at program (stands r))
       names = names_at program tree.rows r right.rows h
+
       meant_of : (o : Option ℕ) → slot_of tree (spot_at r name) ≡ o → meant_in tree (spot_at r name) ≡ and_then o (λ k. and_then (slice_get tree.slots k) (λ slot. Some (meant_seen slot.meant)))
       meant_of o e = ap (λ (x : Option ℕ). and_then x (λ k. and_then (slice_get tree.slots k) (λ slot. Some (meant_seen slot.meant)))) e
+
       with_slot : (o : Option ℕ) → slot_of tree (spot_at r name) ≡ o → SameMeant r name
       with_slot (Some k) e =
           let s = slotted (spot_at r name) k e in
@@ -145,27 +150,30 @@ module _ (program : Program) (tree : Tree) (right : RightTree program tree.rows 
           let w : meaning_among (entries (module_at program (stands r))) name ≡ Some s.meaning = ap (λ (es : List Entry). meaning_among es name) (sym names) ∙ s.among in
           record {
             same = ap (option_map (placed stands)) m ∙ (ap Some s.meant ∙ sym (ap (λ (x : Option Meaning). and_then x (λ y. Some (placed_meant program (stands r) name y))) w));
-            range = λ y g. let i : meant_seen s.slot.meant ≡ y = cc in subst (InRange (length tree.rows)) i s.range
+            range = λ y g. let i : meant_seen s.slot.meant ≡ y = cc in subst (InRange (length tree.rows)) i s.range;
           }
       with_slot None e = none (first_none (slice_get tree.firsts r) refl (first_at right.count h))
         where
           first_at : length tree.firsts ≡ length tree.rows → r < length tree.rows → (first : ℕ) × (slice_get tree.firsts r ≡ Some first)
           first_at c h = get_at tree.firsts r (omega arith)
+
           first_none : (o : Option ℕ) → slice_get tree.firsts r ≡ o → (first : ℕ) × (slice_get tree.firsts r ≡ Some first) → first_place name (entries_at tree.rows r) ≡ None
           first_none o f (first, g) = at (first_place name (entries_at tree.rows r)) refl
             where
               whole : slot_of tree (spot_at r name) ≡ option_map (λ j. first + j) (first_place name (entries_at tree.rows r))
               whole = ap (λ (x : Option ℕ). and_then x (λ first. option_map (λ j. first + j) (first_place name (entries_at tree.rows r)))) g
+
               at : (p : Option ℕ) → first_place name (entries_at tree.rows r) ≡ p → first_place name (entries_at tree.rows r) ≡ None
               at None q = q
               at (Some j) q = let x : None ≡ Some (first + j) = sym e ∙ (whole ∙ ap (option_map (λ j. first + j)) q) in cc
+
           none : first_place name (entries_at tree.rows r) ≡ None → SameMeant r name
           none g =
               let m : meant_in tree (spot_at r name) ≡ None = meant_of None e in
               let w : meaning_among (entries (module_at program (stands r))) name ≡ None = ap (λ (es : List Entry). meaning_among es name) (sym names) ∙ not_found (entries_at tree.rows r) name g in
               record {
                 same = ap (option_map (placed stands)) m ∙ sym (ap (λ (x : Option Meaning). and_then x (λ y. Some (placed_meant program (stands r) name y))) w);
-                range = λ y i. cc
+                range = λ y i. cc;
               }
 
   -- ---- what names stand for and are worth

@@ -3,7 +3,7 @@ use Rattle.std.proofs.Common.{◌≡◌, ℕ, zero, suc, ◌+◌, ◌-◌, ◌<�
 use Rattle.std.specs.Prelude.{slice_get, All}
 use Rattle.std.specs.List.{flat_map}
 use Rattle.std.proofs.lemmas.Grind.{flat_map-append}
-use Rattle.std.proofs.lemmas.List.{append-nil, map-append}
+use Rattle.std.proofs.lemmas.List.{map-append}
 use Rattle.std.proofs.lemmas.List.Elements.{All-push}
 use Rattle.smv_ast.specs.declared.syntax.Expr.{Expr}
 use Rattle.smv_ast.specs.declared.program.Program.{Program}
@@ -12,11 +12,10 @@ use Rattle.smv_meaning.specs.declared.tree.Slot.{Slot}
 use Rattle.smv_meaning.specs.declared.tree.Row.{Row}
 use Rattle.smv_meaning.specs.Value.{Name, and_then}
 use Rattle.smv_meaning.specs.Paths.{Meant, IsVariable, IsInstance, IsDefine, IsFormal, IsNothing}
-use Rattle.smv_meaning.specs.Instances.{Meaning, Variable, Inner, Defined, Formal, Entry, Place, Main, Within, entries, module_at, meaning_at, inner_of, inner_places, from_place, instances, goes_deeper, formal_by, formal_at, meant_in, actuals_of}
-use Rattle.smv_meaning.specs.Entries.{all_seen}
+use Rattle.smv_meaning.specs.Instances.{Meaning, Variable, Inner, Defined, Formal, Entry, Place, Main, Within, entries, module_at, meaning_at, inner_of, inner_places, from_place, goes_deeper, formal_at, meant_in, actuals_of}
 use Rattle.smv_meaning.specs.Tree.{entries_at, placed, InRange, meant_seen}
 use Rattle.smv_meaning.specs.Checking.{IsRight, stands, slot_in, inner_meant, inner_slot, AreRows}
-use Rattle.smv_meaning.proofs.TreeLemmas.{get_within, get_seen, names_at, entries_at_index, length_seen}
+use Rattle.smv_meaning.proofs.TreeLemmas.{get_within, names_at, entries_at_index, length_seen}
 use Rattle.smv_meaning.proofs.NumberLemmas.{get_at}
 
 pub flat_next : {A B : Type 0} (G : A → List B) (xs : List A) (k : ℕ) (x : A) → slice_get xs k ≡ Some x → flat_map G (drop k xs) ≡ G x ++ flat_map G (drop (k + 1) xs)
@@ -79,7 +78,7 @@ module _ (program : Program) (tree : Tree) (right : IsRight program tree) (row :
       let slot : slot_in tree row k ≡ Some s.0 = ap (λ (o : Option ℕ). and_then o (λ first. slice_get tree.slots (first + k))) f.1 ∙ s.1 in
       record {
         inner = ap (λ (o : Option Slot). map (stands tree) (inner_slot o)) slot ∙ (inner_placed (stands tree) (meant_seen s.0.meant) ∙ (ap inner_meant s.2.meant ∙ sym (inner_of_is program (stands tree row) e.name e.meaning)));
-        rows = subst (λ (o : Option Slot). AreRows tree (inner_slot o)) (sym slot) (range_inner (length tree.rows) (meant_seen s.0.meant) s.2.range)
+        rows = subst (λ (o : Option Slot). AreRows tree (inner_slot o)) (sym slot) (range_inner (length tree.rows) (meant_seen s.0.meant) s.2.range);
       }
     where
       first_within : length tree.firsts ≡ length tree.rows → row < length tree.firsts
@@ -88,7 +87,7 @@ module _ (program : Program) (tree : Tree) (right : IsRight program tree) (row :
   -- the instances of one more name
   pub visit_next : (left k : ℕ) (e : Entry) → slice_get names k ≡ Some e →
       flat_map (from_place left program) (flat_map (λ e. inner_of program (stands tree row) e.name e.meaning) (drop k names))
-        ≡ flat_map (from_place left program) (map (stands tree) (inner_slot (slot_in tree row k))) ++ flat_map (from_place left program) (flat_map (λ e. inner_of program (stands tree row) e.name e.meaning) (drop (k + 1) names))
+      ≡ flat_map (from_place left program) (map (stands tree) (inner_slot (slot_in tree row k))) ++ flat_map (from_place left program) (flat_map (λ e. inner_of program (stands tree row) e.name e.meaning) (drop (k + 1) names))
   visit_next left k e at =
       ap (flat_map (from_place left program)) (flat_next (λ e. inner_of program (stands tree row) e.name e.meaning) names k e at)
       ∙ (flat_map-append (from_place left program) (inner_of program (stands tree row) e.name e.meaning) (flat_map (λ e. inner_of program (stands tree row) e.name e.meaning) (drop (k + 1) names))

@@ -1,9 +1,8 @@
 -- Runs by number are runs of the program.
-use Rattle.std.proofs.Common.{◌≡◌, ℕ, zero, suc, ◌+◌, ◌<◌, Bool, true, false, List, [], ◌∷◌, ◌++◌, length, map, drop, get_or, Option, Some, None, refl, sym, ap, ◌∙◌, subst, arith, codes, ◌⊎◌, inl, inr, append_assoc, cond}
+use Rattle.std.proofs.Common.{◌≡◌, ℕ, zero, suc, ◌+◌, ◌<◌, Bool, true, false, List, [], ◌∷◌, ◌++◌, length, map, drop, get_or, Option, Some, None, refl, sym, ap, ◌∙◌, subst, arith, codes, inl, inr, append_assoc, cond}
 use Rattle.std.specs.Prelude.{slice_get, find, All}
 use Rattle.std.specs.Str.{bytes_eq}
 use Rattle.smv_ast.specs.declared.program.Module.{Module}
-use Rattle.smv_ast.specs.declared.program.Section.{Section}
 use Rattle.smv_ast.specs.declared.program.Program.{Program}
 use Rattle.smv_meaning.specs.declared.tree.Tree.{Tree}
 use Rattle.smv_meaning.specs.declared.tree.Row.{Row}
@@ -24,7 +23,7 @@ use Rattle.smv_meaning.specs.Worth.{AreLinked, TellsPaths}
 use Rattle.smv_ast.specs.PrintedExpr.{joined, each_after}
 use Rattle.std.proofs.lemmas.List.{append-nil}
 use Rattle.smv_meaning.specs.Checking.{IsRight, AreRows, stands, Tells}
-use Rattle.smv_meaning.specs.RunCheck.{sections_found, sections_named, sections_of_link, sections_at, broken_in_order, AreTables, text_of_place, named_in, net_holds}
+use Rattle.smv_meaning.specs.RunCheck.{sections_found, sections_of_link, sections_at, broken_in_order, AreTables, text_of_place, named_in, net_holds}
 use Rattle.smv_meaning.proofs.WorthLemmas.{get_item}
 use Rattle.smv_meaning.proofs.TreeLemmas.{get_append, get_last, get_within, below_or}
 use Rattle.smv_meaning.proofs.NumberLemmas.{get_at}
@@ -70,6 +69,7 @@ tables_more net states tables tables' n state table e l p tells first k state' b
   where
     old : k < n → (t : List (Option Value)) × (slice_get tables' k ≡ Some t) × Tells net state' t
     old h = let f = first k state' h g in (f.0, ap (λ (xs : List (List (Option Value))). slice_get xs k) p ∙ get_append tables (table ∷ []) k f.0 f.1, f.2)
+
     new : k ≡ n → (t : List (Option Value)) × (slice_get tables' k ≡ Some t) × Tells net state' t
     new h =
         let same : state ≡ state' = cc (subst (λ (x : ℕ). slice_get states x ≡ Some state') h g) in
@@ -160,7 +160,7 @@ holds_is : (net : Net) (view : View) (e : Expr) (text : List ℕ) (order : List 
     elim (option_map (stands net.tree.now) o) as (λ q. Bool) [ None ↦ false | Some place ↦ is_true (value_in net.program.now (seen_state view) (seen_state view) place e) ] ≡ net_holds net view e text
 holds_is net view e text order o same named =
     ap (λ (q : Option Place). elim q as (λ q. Bool) [ None ↦ false | Some place ↦ is_true (value_in net.program.now (seen_state view) (seen_state view) place e) ])
-        (ap (option_map (stands net.tree.now)) (sym named) ∙ (sym (find_mapped (λ place. bytes_eq (place_text place) text) (stands net.tree.now) order) ∙ ap (find (λ place. bytes_eq (place_text place) text)) same))
+    (ap (option_map (stands net.tree.now)) (sym named) ∙ (sym (find_mapped (λ place. bytes_eq (place_text place) text) (stands net.tree.now) order) ∙ ap (find (λ place. bytes_eq (place_text place) text)) same))
 
 pub holds_some : (net : Net) (view : View) (e : Expr) (text : List ℕ) (order : List ℕ) (row : ℕ) → map (stands net.tree.now) order ≡ instances net.program.now → named_in net.tree.now text order ≡ Some row → true_in net row view view e ≡ net_holds net view e text
 holds_some net view e text order row = holds_is net view e text order (Some row)

@@ -2,7 +2,7 @@
 use Rattle.std.proofs.Common.{◌≡◌, ℕ, zero, suc, ◌+◌, ◌<◌, Bool, true, false, List, [], ◌∷◌, length, map, drop, get_or, Option, Some, None, refl, sym, ap, ◌∙◌, arith}
 use Rattle.smv_ast.specs.declared.syntax.Branch.{Branch, out-Branch, fold_out-Branch}
 use Rattle.smv_meaning.specs.Value.{and_then}
-use Rattle.smv_meaning.specs.Senses.{Allowed, Sense, BranchSense, Reading, taken, holds_in, sense_of, branch_sense_of, choice_sense, expr_sense, branch_sense}
+use Rattle.smv_meaning.specs.Senses.{Allowed, Sense, BranchSense, taken, sense_of, branch_sense_of, choice_sense, expr_sense, branch_sense}
 
 -- the sense of a branch has those of its parts
 pub branch_is : (b : Branch) → branch_sense_of b ≡ record { cond = sense_of (out-Branch b).cond; value = sense_of (out-Branch b).value }

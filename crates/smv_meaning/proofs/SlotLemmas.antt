@@ -1,30 +1,24 @@
 -- What is known of names is known of their slots.
-use Rattle.std.proofs.Common.{◌≡◌, ℕ, zero, suc, drop, get_or, ◌+◌, ◌<◌, ◌≤◌, Bool, true, false, List, [], ◌∷◌, length, Option, Some, None, refl, sym, ap, ◌∙◌, subst, arith, ◌⊎◌, inl, inr, cond}
-use Rattle.std.specs.Prelude.{slice_get, find}
+use Rattle.std.proofs.Common.{◌≡◌, ℕ, zero, suc, drop, get_or, ◌+◌, ◌<◌, ◌≤◌, List, [], ◌∷◌, length, Option, Some, None, refl, sym, ap, ◌∙◌, arith}
+use Rattle.std.specs.Prelude.{slice_get}
 use Rattle.std.specs.Option.{option_map}
-use Rattle.std.specs.Str.{bytes_eq}
-use Rattle.std.proofs.lemmas.Slice.Eq.{bytes_eq-Decides}
 use Rattle.std.proofs.lemmas.Option.{slice_get_past}
 use mathlib.Core.Path.{fun_ext}
-use Rattle.smv_ast.specs.declared.syntax.Expr.{Expr}
-use Rattle.smv_ast.specs.declared.syntax.Expr.TheVariants as expr
 use Rattle.smv_ast.specs.declared.program.Program.{Program}
 use Rattle.smv_meaning.specs.declared.tree.Tree.{Tree}
 use Rattle.smv_meaning.specs.declared.tree.Slot.{Slot}
 use Rattle.smv_meaning.specs.declared.value.Value.{Value}
 use Rattle.smv_meaning.specs.Value.{Name, and_then}
-use Rattle.smv_meaning.specs.Least.{Under, known, least, most, entry}
-use Rattle.smv_meaning.specs.Paths.{Spot, Meant, Standing, IsVariable, IsInstance, IsDefine, IsFormal, IsNothing, walked, stood_for, behind, stand_step, leads_by, leads}
+use Rattle.smv_meaning.specs.Least.{known, least, most, entry}
+use Rattle.smv_meaning.specs.Paths.{Spot, behind, leads}
 use Rattle.smv_meaning.specs.declared.tree.Row.{Row}
 use Rattle.smv_meaning.specs.Entries.{first_place, all_seen}
-use Rattle.smv_meaning.specs.Instances.{Entry, Place, meant_at, entries, module_at}
-use Rattle.smv_meaning.specs.Tree.{entries_at, place_at, places, placed, InRange, meant_seen, RightTree, RightSlot}
+use Rattle.smv_meaning.specs.Tree.{entries_at, meant_seen}
 use Rattle.smv_meaning.specs.Slots.{slot_of, spot_of, meant_in, by_slot, Maker, name_step, slot_step, HasSlots, stand_slots, TellsStanding, leads_to}
-use Rattle.smv_meaning.specs.Senses.{Reading, sense_of}
 use Rattle.smv_meaning.specs.declared.run.RunState.{RunState}
 use Rattle.smv_meaning.specs.Worth.{variable_at, worth_slots, TellsWorth}
-use Rattle.smv_meaning.specs.Values.{symbol_of, Worth, worth_at, reading_by, read_by, worth_of, worth_step}
-use Rattle.smv_meaning.proofs.TreeLemmas.{entries_at_get, get_within, names_at}
+use Rattle.smv_meaning.specs.Values.{symbol_of, worth_of}
+use Rattle.smv_meaning.proofs.TreeLemmas.{entries_at_get, get_within}
 
 -- ---- slots and names
 
@@ -46,10 +40,10 @@ module _ {A : Type 0} (tree : Tree) (has : HasSlots tree) (make : Maker A) where
       let s = the_slot tree spot k has e in
       let slot : Slot = s.0 in
       let left : name_step tree make (by_slot tree told) spot ≡ make (by_slot tree told) spot (meant_seen slot.meant) =
-          ap (λ (x : Option ℕ). and_then (and_then x (λ k. and_then (slice_get tree.slots k) (λ slot. Some (meant_seen slot.meant)))) (make (by_slot tree told) spot)) e
-          ∙ ap (λ (x : Option Slot). and_then (and_then x (λ slot. Some (meant_seen slot.meant))) (make (by_slot tree told) spot)) s.1 in
+      ap (λ (x : Option ℕ). and_then (and_then x (λ k. and_then (slice_get tree.slots k) (λ slot. Some (meant_seen slot.meant)))) (make (by_slot tree told) spot)) e
+      ∙ ap (λ (x : Option Slot). and_then (and_then x (λ slot. Some (meant_seen slot.meant))) (make (by_slot tree told) spot)) s.1 in
       let right : slot_step tree make told k ≡ make (by_slot tree told) spot (meant_seen slot.meant) =
-          ap (λ (x : Option Slot). and_then x (λ slot. make (by_slot tree told) (spot_of slot) (meant_seen slot.meant))) s.1 ∙ ap (λ (x : Spot ℕ). make (by_slot tree told) x (meant_seen slot.meant)) s.2 in
+      ap (λ (x : Option Slot). and_then x (λ slot. make (by_slot tree told) (spot_of slot) (meant_seen slot.meant))) s.1 ∙ ap (λ (x : Spot ℕ). make (by_slot tree told) x (meant_seen slot.meant)) s.2 in
       left ∙ sym right
 
   known-slots : (turns : ℕ) (spot : Spot ℕ) → known (name_step tree make) turns spot ≡ by_slot tree (known (slot_step tree make) turns) spot
@@ -70,8 +64,8 @@ pub slot_within : (tree : Tree) (place first k : ℕ) (name : Name) (row : Row) 
 slot_within tree place first k name row has f r p =
     let spot : Spot ℕ = record { place = place; name = name } in
     let is : slot_of tree spot ≡ Some (first + k) =
-        ap (λ (x : Option ℕ). and_then x (λ first. option_map (λ k. first + k) (first_place name (entries_at tree.rows place)))) f
-        ∙ ap (option_map (λ k. first + k)) (ap (first_place name) (entries_at_get tree.rows place row r) ∙ p) in
+    ap (λ (x : Option ℕ). and_then x (λ first. option_map (λ k. first + k) (first_place name (entries_at tree.rows place)))) f
+    ∙ ap (option_map (λ k. first + k)) (ap (first_place name) (entries_at_get tree.rows place row r) ∙ p) in
     let s = the_slot tree spot (first + k) has is in
     get_within tree.slots (first + k) s.0 s.1
 

@@ -1,7 +1,7 @@
 -- The table of instances as it grows.
-use Rattle.std.proofs.Common.{◌≡◌, ℕ, zero, suc, ◌+◌, ◌<◌, ◌≤◌, Bool, true, false, List, [], ◌∷◌, ◌++◌, length, get_or, map, Option, Some, None, refl, sym, ap, ◌∙◌, subst, arith, length-append, append_assoc, ◌⊎◌, inl, inr, codes, nat_lt, cond, if◌then◌else◌}
+use Rattle.std.proofs.Common.{◌≡◌, ℕ, zero, suc, ◌+◌, ◌<◌, ◌≤◌, Bool, true, false, List, [], ◌∷◌, ◌++◌, length, get_or, map, Option, Some, None, refl, sym, ap, ◌∙◌, subst, arith, length-append, append_assoc, ◌⊎◌, inl, inr, codes, nat_lt, cond}
 use Rattle.std.specs.Prelude.{slice_get, IfSome, find}
-use Rattle.std.specs.List.{fold, flat_map}
+use Rattle.std.specs.List.{fold}
 use Rattle.std.specs.Str.{bytes_eq}
 use Rattle.std.proofs.lemmas.List.Sums.{fold_push, fold-append}
 use Rattle.std.proofs.lemmas.List.{get_or_append_left, get_or_push, append-nil}
@@ -11,12 +11,12 @@ use Rattle.smv_ast.specs.declared.program.Program.{Program}
 use Rattle.smv_meaning.specs.declared.tree.Row.{Row}
 use Rattle.smv_meaning.specs.declared.tree.Link.{Link}
 use Rattle.smv_meaning.specs.declared.tree.Slot.{Slot}
-use Rattle.smv_meaning.specs.Value.{Name, and_then}
+use Rattle.smv_meaning.specs.Value.{Name}
 use Rattle.smv_meaning.specs.Paths.{Meant, IsVariable, IsInstance, IsDefine, IsFormal, IsNothing}
 use Rattle.smv_meaning.specs.declared.entries.Entry.{Entry as Held}
-use Rattle.smv_meaning.specs.Entries.{all_seen, seen, Scope, scope_of, scopes_of, entries_in, entries_found, meaning_among}
-use Rattle.smv_meaning.specs.Instances.{Meaning, Variable, Inner, Defined, Formal, Entry, Place, Main, Within, entries, module_named, module_at, meaning_at, or_empty, called_at, depth_of, goes_deeper, formal_by, formal_at, meant_by, meant_in, actuals_of}
-use Rattle.smv_meaning.specs.Tree.{meant_seen, place_at, next_place, places, entries_at, formal_linked, placed, InRange, formal_in, meant_here, RightRow, RightRows, RightSlot, Extends, AddsSlot, RightUpTo, RightSlots, SlotsBehind, called_by}
+use Rattle.smv_meaning.specs.Entries.{all_seen, seen, scope_of, scopes_of, entries_in, entries_found, meaning_among}
+use Rattle.smv_meaning.specs.Instances.{Meaning, Variable, Inner, Defined, Formal, Entry, Place, Main, Within, entries, module_at, or_empty, depth_of, goes_deeper, formal_by, formal_at, meant_in, actuals_of}
+use Rattle.smv_meaning.specs.Tree.{meant_seen, place_at, next_place, places, entries_at, placed, InRange, formal_in, meant_here, RightRow, RightRows, RightSlot, Extends, AddsSlot, RightUpTo, RightSlots, SlotsBehind, called_by}
 
 pub entries_at_index : (rows : List Row) (k : ℕ) (row : Row) → k < length rows → row ≡ get_or rows k row → entries_at rows k ≡ all_seen row.entries.now
 entries_at_index [] k row h e = absurd (omega arith)
@@ -94,7 +94,7 @@ row_kept program rows more k row h r = record {
   names = r.names ∙ ap (λ p. entries (module_at program p)) (sym (kept_place rows more k h));
   depth = r.depth ∙ ap depth_of (sym (kept_place rows more k h));
   outer = r.outer;
-  stands = kept_place rows more k h ∙ (r.stands ∙ sym (kept_next rows more row.link (further row.link r.outer)))
+  stands = kept_place rows more k h ∙ (r.stands ∙ sym (kept_next rows more row.link (further row.link r.outer)));
 }
   where
     further : (link : Option Link) → IfSome link (λ l. l.outer < k) → IfSome link (λ l. l.outer < length rows)
@@ -115,8 +115,9 @@ rows_more program rows row right new k r e = elim (get_pushed rows row k r e) [ 
       names = new.names ∙ ap (λ p. entries (module_at program p)) (sym (place_next rows row));
       depth = new.depth ∙ ap depth_of (sym (place_next rows row));
       outer = new.outer;
-      stands = place_next rows row ∙ sym (kept_next rows (row ∷ []) row.link new.outer)
+      stands = place_next rows row ∙ sym (kept_next rows (row ∷ []) row.link new.outer);
     }
+
     at : (k : ℕ) (r : Row) → k ≡ length rows → row ≡ r → RightRow program (rows ++ row ∷ []) k r
     at k r e f = subst (λ (x : ℕ). RightRow program (rows ++ row ∷ []) x r) (sym e) (subst (λ (y : Row). RightRow program (rows ++ row ∷ []) (length rows) y) f last)
 
@@ -141,8 +142,8 @@ slot_kept program rows more r e slot h right = record {
   row = right.row;
   name = right.name;
   meant = placed_same (place_at (places (rows ++ more))) (place_at (places rows)) (length rows) (meant_seen slot.meant) (kept_place rows more) right.range
-    ∙ (right.meant ∙ ap (λ p. meant_in program p e.name e.meaning) (sym (kept_place rows more r h)));
-  range = range_more (length rows) (length (rows ++ more)) (meant_seen slot.meant) (omega (arith, length-append rows more)) right.range
+      ∙ (right.meant ∙ ap (λ p. meant_in program p e.name e.meaning) (sym (kept_place rows more r h)));
+  range = range_more (length rows) (length (rows ++ more)) (meant_seen slot.meant) (omega (arith, length-append rows more)) right.range;
 }
 
 formal_placed : (f : ℕ → Place) (outer : ℕ) (m : Option Meaning) (k : ℕ) → placed f (formal_by outer m k) ≡ formal_by (f outer) m k
@@ -205,7 +206,7 @@ meant_alone program rows r row name (Formal k) deeper right e d n =
     let w : IfSome row.link (λ l. l.outer < length rows) = further row.link here.outer in
     record {
       meant = formal_right program rows row.link k right w ∙ ap (λ p. formal_at program p k) (sym here.stands);
-      range = formal_in_range rows row.link k w
+      range = formal_in_range rows row.link k w;
     }
   where
     further : (link : Option Link) → IfSome link (λ l. l.outer < r) → IfSome link (λ l. l.outer < length rows)
@@ -221,11 +222,11 @@ meant_deep program rows r child link name called actuals true h d c o n e =
     let kept = kept_place rows (child ∷ []) r h in
     let f : link.called.now ≡ called = cc in
     let at : place_at (places (rows ++ child ∷ [])) (length rows) ≡ Within (place_at (places rows) r) name called =
-        place_next rows child ∙ (ap (next_place (places rows)) c ∙ (ap (λ x. Within (place_at (places rows) x) link.name.now link.called.now) o ∙ (ap (λ x. Within (place_at (places rows) r) x link.called.now) n ∙ ap (Within (place_at (places rows) r) name) f))) in
+    place_next rows child ∙ (ap (next_place (places rows)) c ∙ (ap (λ x. Within (place_at (places rows) x) link.name.now link.called.now) o ∙ (ap (λ x. Within (place_at (places rows) r) x link.called.now) n ∙ ap (Within (place_at (places rows) r) name) f))) in
     let whole : IsInstance (place_at (places (rows ++ child ∷ [])) (length rows)) ≡ meant_in program (place_at (places rows) r) name (Inner called actuals) = rw d (ap IsInstance at) in
     record {
       meant = whole ∙ ap (λ p. meant_in program p name (Inner called actuals)) (sym kept);
-      range = omega (arith, length-append rows (child ∷ []))
+      range = omega (arith, length-append rows (child ∷ []));
     }
 
 pub meant_instance : (program : Program) (rows : List Row) (r : ℕ) (child : Row) (link : Link) (name : Name) (m : Meaning) (deeper : Bool) → r < length rows → goes_deeper program (place_at (places rows) r) ≡ deeper →
@@ -251,7 +252,7 @@ slot_right program rows r e slot x h n m right = record {
   row = h;
   name = n;
   meant = ap (placed (place_at (places rows))) m ∙ right.meant;
-  range = subst (InRange (length rows)) (sym m) right.range
+  range = subst (InRange (length rows)) (sym m) right.range;
 }
 
 -- the row of an instance that an instance declares
@@ -260,11 +261,12 @@ pub child_new : (program : Program) (rows : List Row) (r : ℕ) (row child : Row
 child_new program rows r row child link name right e c o d n g = record {
   names = n ∙ (ap (entries_in (scopes_of program)) g ∙ (entries_named_is program.modules link.called.now ∙ ap (λ p. entries (module_at program p)) (sym at)));
   depth = d ∙ (deep (right r row e).depth ∙ ap depth_of (sym at));
-  outer = rw (c, o) (get_within rows r row e)
+  outer = rw (c, o) (get_within rows r row e);
 }
   where
     at : next_place (places rows) child.link ≡ Within (place_at (places rows) r) link.name.now link.called.now
     at = ap (next_place (places rows)) c ∙ ap (λ x. Within (place_at (places rows) x) link.name.now link.called.now) o
+
     deep : row.depth ≡ depth_of (place_at (places rows) r) → row.depth + 1 ≡ suc (depth_of (place_at (places rows) r))
     deep e = omega arith
 
@@ -316,12 +318,13 @@ pub upto_more : (program : Program) (rows rows' : List Row) (slots slots' : List
     RightUpTo program rows slots r first es n → RightUpTo program rows' slots' r first es (n + 1)
 upto_more program rows rows' slots slots' r first es n e x a l g h right k e' below g' =
     elim (below_or k n below) [
-      inl b ↦ upto_kept program rows rows' slots slots' (a.0 ∷ []) r first es n x a.1 h right k e' b g'
-    | inr b ↦ last k e' b g'
+      | inl b ↦ upto_kept program rows rows' slots slots' (a.0 ∷ []) r first es n x a.1 h right k e' b g'
+      | inr b ↦ last k e' b g'
     ]
   where
     here : At program rows' slots' r (first + n) e
     here = (a.0, subst (λ (ss : List Slot). slice_get ss (first + n) ≡ Some a.0) (sym a.1) (get_last slots a.0 (first + n) (sym l)), a.2)
+
     last : (k : ℕ) (e' : Entry) → k ≡ n → slice_get es k ≡ Some e' → At program rows' slots' r (first + k) e'
     last k e' b g' =
         let s : e ≡ e' = cc (subst (λ (x : ℕ). slice_get es x ≡ Some e') b g') in
@@ -349,14 +352,17 @@ slots_more program rows rows' firsts slots slots' row n x s g here right r first
   where
     names : (k : ℕ) → k < length rows → entries_at rows' k ≡ entries_at rows k
     names k h = subst (λ (rs : List Row). entries_at rs k ≡ entries_at rows k) (sym x.1) (entries_at_kept rows x.0 k h)
+
     old : r < length firsts → slice_get firsts r ≡ Some first → RightUpTo program rows' slots' r first (entries_at rows' r) (length (entries_at rows' r))
     old h f =
         let w : r < length rows = omega (arith, get_within rows (length firsts) row g) in
         subst (λ (es : List Entry). RightUpTo program rows' slots' r first es (length es)) (sym (names r w)) (upto_kept program rows rows' slots slots' s.0 r first (entries_at rows r) (length (entries_at rows r)) x s.1 w (right r first f))
+
     here' : RightUpTo program rows' slots' (length firsts) (length slots) (entries_at rows' (length firsts)) (length (entries_at rows' (length firsts)))
     here' =
         subst (λ (es : List Entry). RightUpTo program rows' slots' (length firsts) (length slots) es (length es)) (sym (names (length firsts) (get_within rows (length firsts) row g) ∙ entries_at_get rows (length firsts) row g))
-            (subst (λ (m : ℕ). RightUpTo program rows' slots' (length firsts) (length slots) (all_seen row.entries.now) m) (sym (length_seen row.entries.now)) here)
+        (subst (λ (m : ℕ). RightUpTo program rows' slots' (length firsts) (length slots) (all_seen row.entries.now) m) (sym (length_seen row.entries.now)) here)
+
     new : r ≡ length firsts → length slots ≡ first → RightUpTo program rows' slots' r first (entries_at rows' r) (length (entries_at rows' r))
     new h f = subst (λ (x : ℕ). RightUpTo program rows' slots' x first (entries_at rows' x) (length (entries_at rows' x))) (sym h)
         (subst (λ (y : ℕ). RightUpTo program rows' slots' (length firsts) y (entries_at rows' (length firsts)) (length (entries_at rows' (length firsts)))) f here')
@@ -365,5 +371,5 @@ pub main_new : (program : Program) (row : Row) → row.link ≡ None → row.dep
 main_new program row l d n = record {
   names = n ∙ (entries_named_is program.modules (codes "main") ∙ ap (λ (k : Option Link). entries (module_at program (next_place [] k))) (sym l));
   depth = d ∙ ap (λ (k : Option Link). depth_of (next_place [] k)) (sym l);
-  outer = rw l tt
+  outer = rw l tt;
 }

@@ -1,16 +1,16 @@
 -- What names are worth by number, and by place.
-use Rattle.std.proofs.Common.{◌≡◌, ℕ, zero, suc, ◌+◌, ◌<◌, ◌≤◌, Bool, true, false, List, [], ◌∷◌, ◌++◌, length, get_or, Option, Some, None, refl, sym, ap, ◌∙◌, subst, arith, append_assoc, ◌⊎◌, inl, inr, codes, length-append}
+use Rattle.std.proofs.Common.{◌≡◌, ℕ, zero, suc, ◌+◌, ◌<◌, ◌≤◌, List, [], ◌∷◌, ◌++◌, length, get_or, Option, Some, None, refl, sym, ap, ◌∙◌, subst, arith, append_assoc, ◌⊎◌, inl, inr, codes}
 use Rattle.std.specs.Prelude.{slice_get, slice_index_or, IfSome}
 use Rattle.std.specs.Option.{option_map}
 use Rattle.std.proofs.lemmas.List.{append-nil}
-use Rattle.smv_ast.specs.PrintedExpr.{joined, each_after}
+use Rattle.smv_ast.specs.PrintedExpr.{each_after}
 use Rattle.smv_meaning.specs.declared.tree.Row.{Row}
 use Rattle.smv_meaning.specs.declared.tree.Link.{Link}
 use Rattle.smv_meaning.specs.Value.{Name, and_then}
-use Rattle.smv_meaning.specs.Instances.{Place, Main, Within, path_of}
+use Rattle.smv_meaning.specs.Instances.{Place, path_of}
 use Rattle.smv_meaning.specs.Runs.{path_text}
 use Rattle.smv_meaning.specs.Tree.{place_at, next_place, places}
-use Rattle.smv_meaning.specs.Worth.{IsLinked, AreLinked, text_below, link_of, link_text, row_text, TellsPaths, SpellsNames, name_text}
+use Rattle.smv_meaning.specs.Worth.{AreLinked, text_below, link_of, row_text, TellsPaths, SpellsNames, name_text}
 use Rattle.smv_meaning.specs.declared.tree.Tree.{Tree}
 use Rattle.smv_meaning.proofs.TreeLemmas.{get_within, get_append, get_last, row_at}
 
@@ -70,8 +70,10 @@ tells_more rows texts texts' n row text linked e l t p told k r below g = elim (
   where
     old : k < n → slice_get texts' k ≡ Some (path_text (path_of (place_at (places rows) k)))
     old h = ap (λ (xs : List (List ℕ)). slice_get xs k) p ∙ get_append texts (text ∷ []) k _ (told k r h g)
+
     is : text ≡ path_text (path_of (place_at (places rows) n))
     is = t ∙ (text_is rows texts n row.link linked (omega (arith, get_within rows n row e)) (linked n row e).outer told ∙ ap (λ p. path_text (path_of p)) (sym (linked n row e).stands))
+
     new : k ≡ n → slice_get texts' k ≡ Some (path_text (path_of (place_at (places rows) k)))
     new h = subst (λ (x : ℕ). slice_get texts' x ≡ Some (path_text (path_of (place_at (places rows) x)))) (sym h) (ap (λ (xs : List (List ℕ)). slice_get xs n) p ∙ (get_last texts text n (sym l) ∙ ap Some is))
 

@@ -1,5 +1,5 @@
 -- What an expression is worth stays so where names stand for more.
-use Rattle.std.proofs.Common.{◌≡◌, ◌||◌, Bool, true, false, List, [], ◌∷◌, map, Option, Some, None, refl, sym, ap, ◌∙◌, subst}
+use Rattle.std.proofs.Common.{◌≡◌, ◌||◌, Bool, true, false, List, [], ◌∷◌, map, Option, Some, None, refl, sym, subst}
 use Rattle.smv_ast.specs.declared.syntax.Expr.{Expr, Expr-F, roll-Expr, fold-roll-Expr, map-Expr, ind-Expr}
 use Rattle.smv_ast.specs.declared.syntax.Choice.{Choice, Choice-F, roll-Choice, fold-roll-Choice, map-Choice}
 use Rattle.smv_ast.specs.declared.syntax.Branch.{Branch, Branch-F, roll-Branch, fold-roll-Branch}
@@ -7,7 +7,7 @@ use Rattle.smv_meaning.specs.declared.value.Value.{Value}
 use Rattle.smv_meaning.specs.declared.value.Value.TheVariants.{Boolean}
 use Rattle.smv_meaning.specs.Value.{and_then, of_both, operate, negated, denied, same, truth}
 use Rattle.smv_meaning.specs.Least.{Under}
-use Rattle.smv_meaning.specs.Senses.{Reading, Valued, Allowed, Sense, BranchSense, single, parts_allow, taken, taken_in, holds_in, case_value, case_allows, choice_sense, expr_sense, branch_sense, sense_of, choice_allows, branch_sense_of}
+use Rattle.smv_meaning.specs.Senses.{Reading, Valued, Allowed, Sense, BranchSense, single, parts_allow, taken_in, holds_in, choice_sense, expr_sense, branch_sense, sense_of, choice_allows, branch_sense_of}
 
 -- what the first is, the second is
 abbrev pub Le : {A : Type 0} → Option A → Option A → Type 0
@@ -42,7 +42,7 @@ record GrowsBranch (s : BranchSense) : Type 0 where
 single_grows : (meant : Valued) → GrowsValued meant → Grows (single meant)
 single_grows meant h = record {
   value = h;
-  allows = λ now after now' after' m v. then_le (meant now after) (meant now' after') (λ w. Some (same v w)) (λ w. Some (same v w)) (h now after now' after' m) (λ w b e. e)
+  allows = λ now after now' after' m v. then_le (meant now after) (meant now' after') (λ w. Some (same v w)) (λ w. Some (same v w)) (h now after now' after' m) (λ w b e. e);
 }
 
 -- parts that grow
@@ -81,8 +81,8 @@ module _ {A : Type 0} (use' : BranchSense → Reading → Reading → Option A) 
   case_grows (b ∷ []) now after now' after' m = grows b now after now' after' m
   case_grows (b ∷ d ∷ more) now after now' after' m =
       cond_grows now after now' after' b (taken_in now after (senses (d ∷ more))) (taken_in now' after' (senses (d ∷ more))) m (case_grows (d ∷ more) now after now' after' m)
-          (holds_in now after (branch_sense_of b.0)) (holds_in now' after' (branch_sense_of b.0))
-          (then_le _ _ truth truth (b.1.cond.value now after now' after' m) (λ v t e. e))
+      (holds_in now after (branch_sense_of b.0)) (holds_in now' after' (branch_sense_of b.0))
+      (then_le _ _ truth truth (b.1.cond.value now after now' after' m) (λ v t e. e))
 
 abbrev choice_senses : Choice-F Choice Expr Branch → Choice-F Allowed Sense BranchSense
 choice_senses = map-Choice Choice Expr Branch Allowed Sense BranchSense choice_allows sense_of branch_sense_of
@@ -109,13 +109,13 @@ expr_grows (Expr-F.Neg a) = single_grows (λ now after. and_then ((sense_of a.0)
 expr_grows (Expr-F.Not a) = single_grows (λ now after. and_then ((sense_of a.0).value now after) denied) (λ now after now' after' m. then_le _ _ denied denied (a.1.value now after now' after' m) (λ v w e. e))
 expr_grows (Expr-F.Binary op a b) =
     single_grows (λ now after. of_both (operate op) ((sense_of a.0).value now after) ((sense_of b.0).value now after))
-        (λ now after now' after' m. both_le (operate op) _ _ _ _ (a.1.value now after now' after' m) (b.1.value now after now' after' m))
+    (λ now after now' after' m. both_le (operate op) _ _ _ _ (a.1.value now after now' after' m) (b.1.value now after now' after' m))
 expr_grows (Expr-F.Within a c) =
     single_grows (λ now after. and_then ((sense_of a.0).value now after) (λ v. and_then (choice_allows c.0 now after v) (λ b. Some (Boolean b))))
-        (λ now after now' after' m. then_le _ _ _ _ (a.1.value now after now' after' m) (λ v. then_le _ _ (λ b. Some (Boolean b)) (λ b. Some (Boolean b)) (c.1 now after now' after' m v) (λ b w e. e)))
+    (λ now after now' after' m. then_le _ _ _ _ (a.1.value now after now' after' m) (λ v. then_le _ _ (λ b. Some (Boolean b)) (λ b. Some (Boolean b)) (c.1 now after now' after' m v) (λ b w e. e)))
 expr_grows (Expr-F.Cases branches) = record {
   value = λ now after now' after' m. case_grows (λ s now after. s.value.value now after) (λ b. b.1.value.value) branches now after now' after' m;
-  allows = λ now after now' after' m v. case_grows (λ s now after. s.value.allows now after v) (λ b now after now' after' m. b.1.value.allows now after now' after' m v) branches now after now' after' m
+  allows = λ now after now' after' m v. case_grows (λ s now after. s.value.allows now after v) (λ b now after now' after' m. b.1.value.allows now after now' after' m v) branches now after now' after' m;
 }
 expr_grows (Expr-F.Next a) = single_grows (λ now after. (sense_of a.0).value after after) (λ now after now' after' m. a.1.value after after after' after' (record { now = m.after; after = m.after }))
 expr_grows (Expr-F.Pick c) = record { value = λ now after now' after' m v e. e; allows = c.1 }

@@ -1,5 +1,5 @@
 -- What the names of a module stand for, and the instances of a program.
-use Rattle.std.specs.Prelude.{ℕ, zero, suc, Bool, true, false, if◌then◌else◌, List, [], ◌∷◌, ◌++◌, length, nat_lt, map, Option, Some, None, codes, slice_get, find}
+use Rattle.std.specs.Prelude.{ℕ, zero, suc, Bool, if◌then◌else◌, List, [], ◌∷◌, ◌++◌, length, nat_lt, map, Option, Some, None, codes, slice_get, find}
 use Rattle.std.specs.List.{flat_map}
 use Rattle.std.specs.Str.{bytes_eq}
 use Rattle.smv_ast.specs.PrintedExpr.{joined}

@@ -1,6 +1,6 @@
 -- States, constraints, steps and runs; and the first place at which a list of states is no run.
 use Rattle.std.specs.Prelude.{◌≡◌, ◌&&◌, ℕ, suc, Bool, true, false, List, [], ◌∷◌, ◌++◌, map, Option, Some, None, find, codes}
-use Rattle.std.specs.List.{flat_map, filter_map, list_all, All, Contains}
+use Rattle.std.specs.List.{flat_map, list_all, All, Contains}
 use Rattle.std.specs.Str.{bytes_eq}
 use Rattle.smv_ast.specs.PrintedExpr.{joined}
 use Rattle.smv_ast.specs.declared.syntax.Span.{Span}
@@ -19,7 +19,7 @@ use Rattle.smv_meaning.specs.declared.run.RunState.{RunState}
 use Rattle.smv_meaning.specs.declared.run.RunAnswer.{RunAnswer}
 use Rattle.smv_meaning.specs.declared.run.RunAnswer.TheVariants as answer
 use Rattle.smv_meaning.specs.Value.{Name, and_then, all_values, is_true}
-use Rattle.smv_meaning.specs.Instances.{Meaning, Variable, Entry, Place, path_of, place_text, module_at, entries, instances}
+use Rattle.smv_meaning.specs.Instances.{Meaning, Variable, Place, path_of, place_text, module_at, entries, instances}
 use Rattle.smv_meaning.specs.Values.{State, value_in, allows_in}
 
 -- ---- items

@@ -1,9 +1,8 @@
 -- The values of an expression, over what its names stand for now and after the step.
-use Rattle.std.specs.Prelude.{◌||◌, Bool, true, false, List, [], ◌∷◌, map, pos, Option, Some, None}
+use Rattle.std.specs.Prelude.{◌||◌, Bool, true, false, List, [], ◌∷◌, pos, Option, Some, None}
 use Rattle.smv_ast.specs.declared.syntax.Expr.{Expr, fold-Expr, Expr-F}
 use Rattle.smv_ast.specs.declared.syntax.Choice.{Choice, fold-Choice, Choice-F}
 use Rattle.smv_ast.specs.declared.syntax.Branch.{Branch, fold-Branch, Branch-F}
-use Rattle.smv_ast.specs.declared.syntax.Path.{Path}
 use Rattle.smv_meaning.specs.declared.value.Value.{Value}
 use Rattle.smv_meaning.specs.declared.value.Value.TheVariants.{Boolean, Number}
 use Rattle.smv_meaning.specs.Value.{Name, and_then, of_both, same, truth, operate, negated, denied, in_range}

@@ -1,15 +1,15 @@
 -- The steps by which facts are made from one another make more of more: laws of the tables that are filled by them.
-use Rattle.std.specs.Prelude.{◌≡◌, ℕ, List, [], ◌∷◌, Option, Some, None, slice_get}
+use Rattle.std.specs.Prelude.{ℕ, List, [], ◌∷◌, Option, Some, None, slice_get}
 use Rattle.smv_ast.specs.declared.syntax.Expr.{Expr}
 use Rattle.smv_ast.specs.declared.syntax.Expr.TheVariants as expr
 use Rattle.smv_meaning.specs.declared.tree.Tree.{Tree}
 use Rattle.smv_meaning.specs.declared.value.Value.{Value}
-use Rattle.smv_meaning.specs.Value.{Name, and_then}
+use Rattle.smv_meaning.specs.Value.{Name}
 use Rattle.smv_meaning.specs.Least.{Under}
 use Rattle.smv_meaning.specs.Paths.{Spot, Meant, Standing, IsVariable, IsInstance, IsDefine, IsFormal, IsNothing, walked, stood_for, behind, stand_step, leads}
 use Rattle.smv_meaning.specs.Tree.{meant_seen}
 use Rattle.smv_meaning.specs.Slots.{slot_of, spot_of, meant_in, by_slot, Maker, slot_step, stand_slots}
-use Rattle.smv_meaning.specs.Senses.{Reading, sense_of}
+use Rattle.smv_meaning.specs.Senses.{Reading}
 use Rattle.smv_ast.specs.declared.program.Program.{Program}
 use Rattle.smv_meaning.specs.declared.run.RunState.{RunState}
 use Rattle.smv_meaning.specs.Worth.{variable_at, worth_slots}
@@ -68,12 +68,11 @@ by_slot_grows tree s t u spot = then_le (slot_of tree spot) (slot_of tree spot) 
 pub slot_step_grows : {A : Type 0} (tree : Tree) (make : Maker A) → ((s t : Spot ℕ → Option A) → Under s t → (spot : Spot ℕ) (m : Meant ℕ) → Le (make s spot m) (make t spot m)) → (s t : ℕ → Option A) → Under s t → Under (slot_step tree make s) (slot_step tree make t)
 slot_step_grows tree make grows s t u k =
     then_le (slice_get tree.slots k) (slice_get tree.slots k) (λ slot. make (by_slot tree s) (spot_of slot) (meant_seen slot.meant)) (λ slot. make (by_slot tree t) (spot_of slot) (meant_seen slot.meant)) (λ slot e. e)
-        (λ slot. grows (by_slot tree s) (by_slot tree t) (by_slot_grows tree s t u) (spot_of slot) (meant_seen slot.meant))
+    (λ slot. grows (by_slot tree s) (by_slot tree t) (by_slot_grows tree s t u) (spot_of slot) (meant_seen slot.meant))
 
 -- the step of standing grows
 pub stand_slots_grows : (tree : Tree) (s t : ℕ → Option ℕ) → Under s t → Under (stand_slots tree s) (stand_slots tree t)
 stand_slots_grows tree = slot_step_grows tree (λ stand spot. behind stand) (λ s t u spot m. behind_grows (meant_in tree) s t u m)
-
 
 -- the step of worth on slots grows
 pub worth_slots_grows : (program : Program) (tree : Tree) (written : RunState) (s t : ℕ → Option Value) → Under s t → Under (worth_slots program tree written s) (worth_slots program tree written t)

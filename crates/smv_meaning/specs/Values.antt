@@ -1,6 +1,6 @@
 -- What paths are worth in an instance and a state: variables by the state, DEFINEs and formals by what they stand for,
 -- each read in its own instance, and all else by the symbols of the program.
-use Rattle.std.specs.Prelude.{ℕ, Bool, true, false, List, [], ◌∷◌, ◌++◌, Option, Some, None}
+use Rattle.std.specs.Prelude.{Bool, true, false, List, [], ◌∷◌, ◌++◌, Option, Some, None}
 use Rattle.std.specs.List.{list_any}
 use Rattle.std.specs.Str.{bytes_eq}
 use Rattle.smv_ast.specs.declared.syntax.Expr.{Expr}

@@ -1,5 +1,5 @@
 -- What the names of instances are worth, by the numbers of their slots.
-use Rattle.std.specs.Prelude.{◌≡◌, ℕ, ◌<◌, List, [], ◌∷◌, ◌++◌, length, Option, Some, None, slice_get, slice_index_or, IfSome, codes}
+use Rattle.std.specs.Prelude.{◌≡◌, ℕ, ◌<◌, List, [], ◌∷◌, ◌++◌, Option, Some, None, slice_get, slice_index_or, IfSome, codes}
 use Rattle.std.specs.Option.{option_map}
 use Rattle.smv_ast.specs.declared.syntax.Expr.{Expr}
 use Rattle.smv_ast.specs.declared.program.Program.{Program}
@@ -9,7 +9,7 @@ use Rattle.smv_meaning.specs.declared.tree.Link.{Link}
 use Rattle.smv_meaning.specs.declared.tree.Row.{Row}
 use Rattle.smv_meaning.specs.declared.tree.Tree.{Tree}
 use Rattle.smv_meaning.specs.Value.{Name, and_then}
-use Rattle.smv_meaning.specs.Least.{entry, least}
+use Rattle.smv_meaning.specs.Least.{entry}
 use Rattle.smv_meaning.specs.Paths.{Spot}
 use Rattle.smv_meaning.specs.Instances.{path_of}
 use Rattle.smv_meaning.specs.Senses.{Reading}

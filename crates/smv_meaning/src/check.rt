@@ -96,11 +96,7 @@ fn tables_of(
 }
 
 /// The state of a number, with what each slot is worth in it.
-fn view_of<'t>(
-    states: &'t [RunState],
-    tables: &'t [List<Option<Value>>],
-    k: usize,
-) -> View<'t>
+fn view_of<'t>(states: &'t [RunState], tables: &'t [List<Option<Value>>], k: usize) -> View<'t>
     requires states { k < length states.now }
     requires tables { k < length tables.now }
     ensures written { slice_get states.now k ≡ Some result.written.now }
@@ -192,7 +188,14 @@ fn run_of_tree(
 {
     let standing = standing_of(alloc, tree)?;
     let texts = path_texts(alloc, tree.rows.as_slice())?;
-    run_of_net(alloc, program, tree, standing.as_slice(), texts.as_slice(), states)
+    run_of_net(
+        alloc,
+        program,
+        tree,
+        standing.as_slice(),
+        texts.as_slice(),
+        states,
+    )
 }
 
 fn run_of_scopes(

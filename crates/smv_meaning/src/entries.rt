@@ -12,7 +12,10 @@ use std::alloc::Global;
 pub enum Meaning<'a> {
     Variable(&'a SmvType),
     /// An instance of a module, with its actuals.
-    Inner { called: &'a Text, actuals: &'a [Expr] },
+    Inner {
+        called: &'a Text,
+        actuals: &'a [Expr],
+    },
     /// The right side of a DEFINE.
     Defined(&'a Expr),
     /// The formal of this number.

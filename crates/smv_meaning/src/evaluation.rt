@@ -6,7 +6,7 @@ ghost use Rattle.smv_meaning.specs.Senses as spec;
 
 use crate::operators::{denied, in_range, negated, operate, same, truth};
 use crate::value::Value;
-use smv_ast::{Branch, Boxed, Choice, Expr, NoMemory, Path};
+use smv_ast::{Boxed, Branch, Choice, Expr, NoMemory, Path};
 use std::alloc::Global;
 
 /// What paths stand for.

@@ -67,7 +67,13 @@ fn allows_at<'t>(
     requires after { items.IsView net.now after }
     ensures { IfOk result (λ b. b ≡ items.allows_row net.now row now.entry after.entry e.now v.now) }
 {
-    let found = allows(alloc, &reader(net, row, now), &reader(net, row, after), e, v)?;
+    let found = allows(
+        alloc,
+        &reader(net, row, now),
+        &reader(net, row, after),
+        e,
+        v,
+    )?;
     Ok(found)
 }
 

@@ -1,11 +1,11 @@
 //! What models mean: values, instances, states, runs.
 #![tactic(auto)]
 
+mod check;
+mod entries;
 pub mod evaluation;
 mod items;
 pub mod least;
-mod check;
-mod entries;
 mod net;
 mod operators;
 mod order;
@@ -19,8 +19,8 @@ mod value;
 mod worth;
 
 pub use check::check_run;
-pub use spec::spec_holds;
 pub use run::{Named, Run, RunAnswer, RunState};
+pub use spec::spec_holds;
 pub use value::{Value, first_value};
 
 #[cfg(test)]

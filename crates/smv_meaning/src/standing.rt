@@ -112,12 +112,7 @@ pub fn standing_of(alloc: Global, tree: &Tree) -> Result<List<Option<usize>>, No
 }
 
 /// The slot of the declaration to which a path leads from an instance.
-pub fn leads(
-    tree: &Tree,
-    standing: &[Option<usize>],
-    start: usize,
-    names: &[Text],
-) -> Option<usize>
+pub fn leads(tree: &Tree, standing: &[Option<usize>], start: usize, names: &[Text]) -> Option<usize>
     requires has { slots.HasSlots tree.now }
     requires tells { slots.TellsStanding tree.now standing.now }
     ensures { result ≡ slots.leads_to tree.now start names.now }

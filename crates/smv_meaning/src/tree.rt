@@ -111,13 +111,7 @@ fn called_by<'a>(deeper: bool, meaning: Meaning<'a>) -> Option<&'a Text>
     ensures deeper { OnSome result (deeper ≡ true) }
 {
     match meaning {
-        Meaning::Inner { called, .. } => {
-            if deeper {
-                Some(called)
-            } else {
-                None
-            }
-        }
+        Meaning::Inner { called, .. } => { if deeper { Some(called) } else { None } }
         _ => None,
     }
 }

@@ -19,11 +19,7 @@ use sqlite_items::at;
 use std::alloc::Global;
 
 /// The value that a written state gives a path by its text; of two the first counts.
-fn written_value_of(
-    alloc: Global,
-    values: &[Named],
-    text: &str,
-) -> Result<Option<Value>, NoMemory>
+fn written_value_of(alloc: Global, values: &[Named], text: &str) -> Result<Option<Value>, NoMemory>
     ensures { IfOk result (λ v. v ≡ written_value values.now text.now) }
 {
     for named in values {
@@ -49,12 +45,7 @@ pub struct Net<'t> {
 }
 
 /// The text of the path of a name, if there is an instance of this number.
-fn name_text(
-    alloc: Global,
-    net: &Net,
-    row: usize,
-    name: &str,
-) -> Result<Option<Text>, NoMemory>
+fn name_text(alloc: Global, net: &Net, row: usize, name: &str) -> Result<Option<Text>, NoMemory>
     ensures { IfOk result (λ t. t ≡ worth.name_text net.now.tree.now (record { place = row; name = name.now })) }
 {
     let Some(found) = at(net.tree.rows.as_slice(), row).copied() else {

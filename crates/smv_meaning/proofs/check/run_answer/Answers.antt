@@ -1,4 +1,4 @@
-use Rattle.std.proofs.Common.{◌≡◌, ◌+◌, sym, ◌∙◌, arith, Some, None}
+use Rattle.std.proofs.Common.{sym, ◌∙◌, arith}
 use Rattle.smv_meaning.proofs.RunLemmas.{broken_is, answer_breaks, answer_goes, is_view, table_within}
 use Rattle.smv_meaning.proofs.check.run_answer.Goals as goal
 
@@ -17,5 +17,5 @@ loop-k-preserved c =
     record {
       step = omega arith;
       before = is_view c.args.net.now c.view_of-now.result c.args.states.now c.args.tables.now c.loop-k.k c.requires.tables c.view_of-now.ensures.written c.view_of-now.ensures.table;
-      same = answer_goes c.args.net.now.program.now c.loop-k.step c.loop-k.before c.view_of-now.result c.args.states.now c.loop-k.k c.view_of-now.ensures.written (sym c.in-None.is ∙ (c.in_ok-item.ensures ∙ broken)) ∙ c.loop-k.invariant.same
+      same = answer_goes c.args.net.now.program.now c.loop-k.step c.loop-k.before c.view_of-now.result c.args.states.now c.loop-k.k c.view_of-now.ensures.written (sym c.in-None.is ∙ (c.in_ok-item.ensures ∙ broken)) ∙ c.loop-k.invariant.same;
     }

@@ -9,5 +9,5 @@ abbrev pub invariant-loop-k : goal.invariant-loop-k
 invariant-loop-k l = record {
   step : l.step ≡ l.k;
   before : IfSome l.before (IsView l.net);
-  same : Rest l.net.program.now l.step l.before l.states l.k ≡ answer_of l.net.program.now l.states
+  same : Rest l.net.program.now l.step l.before l.states l.k ≡ answer_of l.net.program.now l.states;
 }

@@ -1,5 +1,4 @@
 use Rattle.std.proofs.Common.{◌≡◌, ◌∙◌, get_or}
-use Rattle.smv_meaning.specs.declared.tree.Row.{Row}
 use Rattle.smv_meaning.proofs.RunLemmas.{sections_is}
 use Rattle.smv_meaning.proofs.check.sections_of.Goals as goal
 

@@ -1,4 +1,4 @@
-use Rattle.std.proofs.Common.{◌≡◌, ◌∙◌, ap}
+use Rattle.std.proofs.Common.{◌∙◌}
 use Rattle.smv_meaning.proofs.ItemLemmas.{allows_is}
 use Rattle.smv_meaning.proofs.items.allows_at.Goals as goal
 

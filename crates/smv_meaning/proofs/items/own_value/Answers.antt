@@ -1,4 +1,4 @@
-use Rattle.std.proofs.Common.{◌≡◌, ◌∙◌}
+use Rattle.std.proofs.Common.{◌∙◌}
 use Rattle.smv_meaning.proofs.ItemLemmas.{own_is}
 use Rattle.smv_meaning.proofs.items.own_value.Goals as goal
 

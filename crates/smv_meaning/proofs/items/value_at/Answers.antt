@@ -1,4 +1,4 @@
-use Rattle.std.proofs.Common.{◌≡◌, ◌∙◌, ap}
+use Rattle.std.proofs.Common.{◌∙◌}
 use Rattle.smv_meaning.proofs.ItemLemmas.{value_is}
 use Rattle.smv_meaning.proofs.items.value_at.Goals as goal
 

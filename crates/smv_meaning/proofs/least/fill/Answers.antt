@@ -1,4 +1,4 @@
-use Rattle.std.proofs.Common.{ℕ, ◌≡◌, refl, rules, ◌∙◌, arith, length, ◌<◌, ◌≤◌, ◌^◌}
+use Rattle.std.proofs.Common.{ℕ, ◌≡◌, rules, ◌∙◌, arith, length, ◌<◌, ◌^◌}
 use Rattle.smv_meaning.specs.Least.{filled, IsClosed}
 use Rattle.smv_meaning.proofs.LeastLemmas.{filled_length, finished, nothing-right}
 use Rattle.smv_meaning.proofs.least.fill.Goals as goal

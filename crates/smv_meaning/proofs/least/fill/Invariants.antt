@@ -5,7 +5,7 @@ use Rattle.smv_meaning.proofs.least.fill.Given as goal
 abbrev pub invariant-sweeping : goal.invariant-sweeping
 invariant-sweeping g l = record {
   right : IsRight (g.S.Step.step l.steps) l.table;
-  same : length l.table ≡ l.count
+  same : length l.table ≡ l.count;
 }
 
 abbrev pub decreases-sweeping : goal.decreases-sweeping

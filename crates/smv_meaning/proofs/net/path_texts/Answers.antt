@@ -1,5 +1,4 @@
-use Rattle.std.proofs.Common.{◌≡◌, ◌++◌, ◌∷◌, [], ◌+◌, ◌<◌, ◌≤◌, List, ℕ, length, sym, ap, ◌∙◌, refl, arith, Some, length-append}
-use Rattle.std.specs.Prelude.{slice_get, IfSome}
+use Rattle.std.proofs.Common.{◌∷◌, [], List, ℕ, length, ap, ◌∙◌, arith, length-append}
 use Rattle.smv_meaning.specs.Worth.{row_text}
 use Rattle.smv_meaning.proofs.TreeLemmas.{get_within}
 use Rattle.smv_meaning.proofs.WorthLemmas.{tells_more, within_rows, get_item, spells}
@@ -21,7 +20,7 @@ loop-row-preserved c =
     let is = c.in_ok-text.ensures ∙ ap (λ (texts : List (List ℕ)). row_text c.args.rows.now texts c.row-item.result.link) c.as_slice.ensures in
     record {
       count = omega (arith, ap length c.in_ok-push.ensures.ok, length-append c.loop-row.texts (c.in_ok-text.text ∷ []), c.loop-row.invariant.count);
-      told = tells_more c.args.rows.now c.loop-row.texts c.push.new.self c.loop-row.row-index c.row-item.result c.in_ok-text.text c.requires at c.loop-row.invariant.count is c.in_ok-push.ensures.ok c.loop-row.invariant.told
+      told = tells_more c.args.rows.now c.loop-row.texts c.push.new.self c.loop-row.row-index c.row-item.result c.in_ok-text.text c.requires at c.loop-row.invariant.count is c.in_ok-push.ensures.ok c.loop-row.invariant.told;
     }
 
 pub returns-clause-names : goal.returns-clause-names

@@ -5,5 +5,5 @@ use Rattle.smv_meaning.proofs.net.path_texts.Given as goal
 abbrev pub invariant-loop-row : goal.invariant-loop-row
 invariant-loop-row l = record {
   count : length l.texts ≡ l.row-index;
-  told : TellsFirst l.rows l.texts l.row-index
+  told : TellsFirst l.rows l.texts l.row-index;
 }

@@ -1,4 +1,4 @@
-use Rattle.std.proofs.Common.{◌≡◌, ◌∙◌, get_or, List, ℕ, ap, sym}
+use Rattle.std.proofs.Common.{◌≡◌, ◌∙◌, get_or, List, ℕ, ap}
 use Rattle.std.specs.Str.{bytes_eq}
 use Rattle.smv_meaning.specs.RunCheck.{text_of_place}
 use Rattle.smv_meaning.proofs.RunLemmas.{named_is}

@@ -1,4 +1,4 @@
-use Rattle.std.proofs.Common.{◌≡◌, ℕ, ◌+◌, ◌<◌, length, sym, ap, ◌∙◌, arith, refl, Some}
+use Rattle.std.proofs.Common.{◌≡◌, sym, ap, ◌∙◌, arith, Some}
 use Rattle.smv_meaning.specs.Value.{Name}
 use Rattle.smv_meaning.specs.Least.{entry}
 use Rattle.smv_meaning.specs.Slots.{slot_of, by_slot}
@@ -13,8 +13,8 @@ returns-then-left-eq0 c =
 pub loop-name-preserved : goal.loop-name-preserved
 loop-name-preserved c =
     let below : by_slot c.args.tree.now (entry c.args.standing.now) (record { place = c.loop-name.row; name = c.name-item.result }) ≡ Some c.in-Some.below =
-        ap (λ (n : Name). by_slot c.args.tree.now (entry c.args.standing.now) (record { place = c.loop-name.row; name = n })) (sym c.as_str-in-loop-name.ensures) ∙ (sym c.told_of.ensures ∙ c.in-Some.is) in
+    ap (λ (n : Name). by_slot c.args.tree.now (entry c.args.standing.now) (record { place = c.loop-name.row; name = n })) (sym c.as_str-in-loop-name.ensures) ∙ (sym c.told_of.ensures ∙ c.in-Some.is) in
     record {
       left = omega arith;
-      same = sym (lead_more c.args.tree.now c.args.standing.now c.args.names.now c.loop-name.name-index c.loop-name.row c.in-Some.below c.name-item.result c.requires.tells (omega arith) c.name-item.is below) ∙ c.loop-name.invariant.same
+      same = sym (lead_more c.args.tree.now c.args.standing.now c.args.names.now c.loop-name.name-index c.loop-name.row c.in-Some.below c.name-item.result c.requires.tells (omega arith) c.name-item.is below) ∙ c.loop-name.invariant.same;
     }

@@ -5,5 +5,5 @@ use Rattle.smv_meaning.proofs.standing.leads.Given as goal
 abbrev pub invariant-loop-name : goal.invariant-loop-name
 invariant-loop-name l = record {
   left : l.left + l.name-index ≡ length l.names;
-  same : leads_to l.tree l.row (drop l.name-index l.names) ≡ leads_to l.tree l.start l.names
+  same : leads_to l.tree l.row (drop l.name-index l.names) ≡ leads_to l.tree l.start l.names;
 }

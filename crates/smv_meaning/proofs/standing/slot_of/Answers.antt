@@ -1,4 +1,4 @@
-use Rattle.std.proofs.Common.{◌≡◌, ◌+◌, ◌<◌, length, sym, ◌∙◌, arith, Some}
+use Rattle.std.proofs.Common.{◌≡◌, sym, ◌∙◌, arith, Some}
 use Rattle.std.specs.Prelude.{slice_get}
 use Rattle.smv_meaning.proofs.SlotLemmas.{slot_within}
 use Rattle.smv_meaning.proofs.standing.slot_of.Goals as goal

@@ -8,5 +8,5 @@ invariant-loop-entry l = record {
   extends : Extends l.fn.rows l.rows;
   rows : RightRows l.program l.rows;
   behind : SlotsBehind l.entry-index l.fn.slots l.slots;
-  slots : RightUpTo l.program l.rows l.slots l.r (length l.fn.slots) (all_seen l.row.entries.now) l.entry-index
+  slots : RightUpTo l.program l.rows l.slots l.r (length l.fn.slots) (all_seen l.row.entries.now) l.entry-index;
 }

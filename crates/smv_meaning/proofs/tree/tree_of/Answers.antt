@@ -1,9 +1,8 @@
-use Rattle.std.proofs.Common.{◌≡◌, ◌+◌, ◌≤◌, ℕ, List, [], ◌++◌, ◌∷◌, length, sym, ap, ◌∙◌, subst, arith, refl, Some, None, codes, length-append}
+use Rattle.std.proofs.Common.{◌≡◌, ℕ, List, [], ◌++◌, ◌∷◌, length, sym, ap, ◌∙◌, subst, arith, refl, Some, None, codes, length-append}
 use Rattle.std.specs.Prelude.{slice_get}
 use Rattle.smv_meaning.specs.declared.tree.Row.{Row}
-use Rattle.smv_meaning.specs.declared.tree.Slot.{Slot}
 use Rattle.smv_meaning.specs.Entries.{all_seen, entries_in}
-use Rattle.smv_meaning.specs.Tree.{RightRows, RightSlots, RightUpTo, place_at, places, next_place}
+use Rattle.smv_meaning.specs.Tree.{RightSlots, RightUpTo, place_at, places}
 use Rattle.smv_meaning.proofs.TreeLemmas.{main_new, rows_more, place_next, kept_place, get_none, slots_more, extends_length, get_within}
 use Rattle.smv_meaning.proofs.tree.tree_of.Goals as goal
 
@@ -18,7 +17,7 @@ loop-r-init c =
       some = rw made (omega arith);
       within = omega arith;
       count = rw c.new-firsts.ensures refl;
-      slots = rw c.new-firsts.ensures (λ r first e. cc)
+      slots = rw c.new-firsts.ensures (λ r first e. cc);
     }
 
 pub returns-in_default : goal.returns-in_default
@@ -29,7 +28,7 @@ returns-in_default c =
       main = c.loop-r.invariant.main;
       some = c.loop-r.invariant.some;
       count = omega (arith, get_none c.loop-r.rows c.loop-r.r none);
-      slots = c.loop-r.invariant.slots
+      slots = c.loop-r.invariant.slots;
     }
 
 pub loop-r-preserved : goal.loop-r-preserved
@@ -46,6 +45,6 @@ loop-r-preserved c =
       within = omega (arith, extends_length c.loop-r.rows c.expand.new.rows x, get_within c.loop-r.rows c.loop-r.r c.in-Some.row at);
       count = omega (arith, ap length pushed, length-append c.loop-r.firsts (length c.loop-r.slots ∷ []), count);
       slots = subst (λ (firsts : List ℕ). RightSlots c.args.program.now c.expand.new.rows firsts c.expand.new.slots) (sym pushed)
-        (slots_more c.args.program.now c.loop-r.rows c.expand.new.rows c.loop-r.firsts c.loop-r.slots c.expand.new.slots c.in-Some.row (length c.in-Some.row.entries.now) x c.in_ok-expand.ensures.behind
-          (subst (λ (n : ℕ). slice_get c.loop-r.rows n ≡ Some c.in-Some.row) (sym count) at) upto c.loop-r.invariant.slots)
+          (slots_more c.args.program.now c.loop-r.rows c.expand.new.rows c.loop-r.firsts c.loop-r.slots c.expand.new.slots c.in-Some.row (length c.in-Some.row.entries.now) x c.in_ok-expand.ensures.behind
+          (subst (λ (n : ℕ). slice_get c.loop-r.rows n ≡ Some c.in-Some.row) (sym count) at) upto c.loop-r.invariant.slots);
     }

@@ -10,5 +10,5 @@ invariant-loop-r l = record {
   some : 0 < length l.rows;
   within : l.r ≤ length l.rows;
   count : length l.firsts ≡ l.r;
-  slots : RightSlots l.program l.rows l.firsts l.slots
+  slots : RightSlots l.program l.rows l.firsts l.slots;
 }
