@@ -1,0 +1,10 @@
+pub mod LeastLemmas
+pub mod SenseLemmas
+pub mod TreeLemmas
+pub mod SlotLemmas
+pub mod WorthLemmas
+pub mod NumberLemmas
+pub mod OrderLemmas
+pub mod ItemLemmas
+pub mod RunLemmas
+mod Examples

@@ -1,0 +1,17 @@
+pub mod Value
+pub mod Least
+pub mod Paths
+pub mod Instances
+pub mod Known
+pub mod Senses
+pub mod Values
+pub mod Runs
+pub mod Entries
+pub mod Tree
+pub mod Slots
+pub mod Worth
+pub mod Growing
+pub mod StepGrowing
+pub mod Checking
+pub mod Items
+pub mod RunCheck
