@@ -160,6 +160,21 @@ fn assumptions_give_models_and_cores(rt: HostRuntime) -> Result<(), Fail> {
 }
 
 #[test]
+fn a_core_is_derived_before_the_model(rt: HostRuntime) -> Result<(), Fail> {
+    let alloc = rt.alloc();
+    let mut session = Session::new(alloc);
+    session.grow(4)?;
+    add_pairs(alloc, &mut session, 4, &[[1, 2], [-1, 2]])?;
+    expect(alloc, &mut session, 4, &[-2], 10, (core(1), 1))?;
+    let log = session.log();
+    assert_eq!(rt; log.derived(), 1);
+    let two = literals(alloc, &[2])?;
+    assert_eq!(rt; log.clause(1).lits(), two.as_slice());
+    expect_value(alloc, &mut session, &[], 2, true)?;
+    Ok(())
+}
+
+#[test]
 fn later_axioms_count(rt: HostRuntime) -> Result<(), Fail> {
     let alloc = rt.alloc();
     let mut session = implications(alloc)?;
