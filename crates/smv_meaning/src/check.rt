@@ -1,6 +1,6 @@
 //! Whether a list of states is a run, and whether an expression is true in a state.
 
-ghost use Rattle.std.specs.Prelude.{◌≡◌, ◌<◌, ◌^◌, IfOk, IfSome, Some, length, map, slice_get};
+ghost use Rattle.std.specs.Prelude.{◌≡◌, ◌↔◌, ◌<◌, ◌^◌, All, IfOk, IfSome, Some, length, map, slice_get};
 ghost use Rattle.std.specs.Option.{option_map};
 ghost use Rattle.smv_meaning.specs.Instances as instances;
 ghost use Rattle.smv_meaning.specs.Runs as spec;
@@ -220,7 +220,8 @@ fn run_of_scopes(
 /// memory.
 pub fn check_run(alloc: Global, program: &Program, run: &Run) -> Result<RunAnswer, NoMemory>
     requires { length run.now.states < 2 ^ 32 }
-    ensures { IfOk result (λ a. a ≡ spec.answer_of program.now run.now.states) }
+    ensures exact { IfOk result (λ a. a ≡ spec.answer_of program.now run.now.states) }
+    ensures law { IfOk result (λ a. 0 < length run.now.states → All (spec.IsState program.now) (map spec.state_of run.now.states) → (a ≡ RunAnswer.Run) ↔ spec.IsRun program.now (map spec.state_of run.now.states)) }
 {
     let scopes = scopes_of(alloc, program)?;
     run_of_scopes(alloc, program, scopes.as_slice(), run.states.as_slice())
