@@ -216,8 +216,9 @@ fn run_of_scopes(
 }
 
 /// Whether a list of states is a run of a program, and else the first item that breaks, in the order
-/// of the instances and of the text, at the first state where one does. The only error is want of
-/// memory.
+/// of the instances and of the text, at the first state where one does. It does not look whether each
+/// variable has a value of its type: where each has, and there is a state, the answer is `Run` exactly
+/// at runs. Of no states the answer is `Run`. The only error is want of memory.
 pub fn check_run(alloc: Global, program: &Program, run: &Run) -> Result<RunAnswer, NoMemory>
     requires { length run.now.states < 2 ^ 32 }
     ensures exact { IfOk result (λ a. a ≡ spec.answer_of program.now run.now.states) }
