@@ -7,4 +7,5 @@ pub mod NumberLemmas
 pub mod OrderLemmas
 pub mod ItemLemmas
 pub mod RunLemmas
+pub mod RunLaw
 mod Examples

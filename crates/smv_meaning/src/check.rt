@@ -1,6 +1,6 @@
 //! Whether a list of states is a run, and whether an expression is true in a state.
 
-ghost use Rattle.std.specs.Prelude.{◌≡◌, ◌<◌, ◌^◌, IfOk, IfSome, Some, length, map, slice_get};
+ghost use Rattle.std.specs.Prelude.{◌≡◌, ◌↔◌, ◌<◌, ◌^◌, All, IfOk, IfSome, Some, length, map, slice_get};
 ghost use Rattle.std.specs.Option.{option_map};
 ghost use Rattle.smv_meaning.specs.Instances as instances;
 ghost use Rattle.smv_meaning.specs.Runs as spec;
@@ -216,11 +216,13 @@ fn run_of_scopes(
 }
 
 /// Whether a list of states is a run of a program, and else the first item that breaks, in the order
-/// of the instances and of the text, at the first state where one does. The only error is want of
-/// memory.
+/// of the instances and of the text, at the first state where one does. It does not look whether each
+/// variable has a value of its type: where each has, and there is a state, the answer is `Run` exactly
+/// at runs. Of no states the answer is `Run`. The only error is want of memory.
 pub fn check_run(alloc: Global, program: &Program, run: &Run) -> Result<RunAnswer, NoMemory>
     requires { length run.now.states < 2 ^ 32 }
-    ensures { IfOk result (λ a. a ≡ spec.answer_of program.now run.now.states) }
+    ensures exact { IfOk result (λ a. a ≡ spec.answer_of program.now run.now.states) }
+    ensures law { IfOk result (λ a. 0 < length run.now.states → All (spec.IsState program.now) (map spec.state_of run.now.states) → (a ≡ RunAnswer.Run) ↔ spec.IsRun program.now (map spec.state_of run.now.states)) }
 {
     let scopes = scopes_of(alloc, program)?;
     run_of_scopes(alloc, program, scopes.as_slice(), run.states.as_slice())
