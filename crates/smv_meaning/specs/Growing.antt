@@ -75,17 +75,20 @@ abbrev senses : List Branches → List BranchSense
 senses branches = map branch_sense_of (map (λ b. b.0) branches)
 
 module _ {A : Type 0} (use' : BranchSense → Reading → Reading → Option A) (grows : (b : Branches) (now after now' after' : Reading) → More now after now' after' → Le (use' (branch_sense_of b.0) now after) (use' (branch_sense_of b.0) now' after')) where
+  -- the branch that is taken, where the condition has this truth value
   next_grows : (now after now' after' : Reading) (b : Branches) (x y : Option BranchSense) → More now after now' after' → Le (and_then x (λ s. use' s now after)) (and_then y (λ s. use' s now' after')) → (t : Bool) →
       Le (and_then (elim t [ true ↦ Some (branch_sense_of b.0) | false ↦ x ]) (λ s. use' s now after)) (and_then (elim t [ true ↦ Some (branch_sense_of b.0) | false ↦ y ]) (λ s. use' s now' after'))
   next_grows now after now' after' b x y m h true = grows b now after now' after' m
   next_grows now after now' after' b x y m h false = h
 
+  -- the branch that is taken, where the condition may have a truth value
   cond_grows : (now after now' after' : Reading) (b : Branches) (x y : Option BranchSense) → More now after now' after' → Le (and_then x (λ s. use' s now after)) (and_then y (λ s. use' s now' after')) →
       (o q : Option Bool) → Le o q →
       Le (and_then (and_then o elim [ true ↦ Some (branch_sense_of b.0) | false ↦ x ]) (λ s. use' s now after)) (and_then (and_then q elim [ true ↦ Some (branch_sense_of b.0) | false ↦ y ]) (λ s. use' s now' after'))
   cond_grows now after now' after' b x y m h None q l a e = cc
   cond_grows now after now' after' b x y m h (Some t) q l a e = rw (l t refl) (next_grows now after now' after' b x y m h t a e)
 
+  -- what is made of the branch that is taken grows where the branches do
   case_grows : (branches : List Branches) (now after now' after' : Reading) → More now after now' after' →
       Le (and_then (taken_in now after (senses branches)) (λ s. use' s now after)) (and_then (taken_in now' after' (senses branches)) (λ s. use' s now' after'))
   case_grows [] now after now' after' m = λ a e. cc

@@ -19,15 +19,18 @@ use Rattle.smv_meaning.specs.Growing.{Le, then_le, sense_grows}
 -- ---- the steps grow
 
 module _ {P : Type 0} (meant : Spot P → Option (Meant P)) where
+  -- an instance to which a path leads stays that where names stand for more
   pub walked_grows : (s t : Standing P) → Under s t → (path : List Name) (place : P) → Le (walked s place path) (walked t place path)
   walked_grows s t u [] place = λ p e. e
   walked_grows s t u (name ∷ more) place =
       then_le (s (record { place = place; name = name })) (t (record { place = place; name = name })) (λ p. walked s p more) (λ p. walked t p more) (u (record { place = place; name = name })) (walked_grows s t u more)
 
+  -- so does the instance that an actual stands for
   stood_grows : (s t : Standing P) → Under s t → (place : P) (e : Expr) → Le (stood_for s place e) (stood_for t place e)
   stood_grows s t u place (expr.Name path) = walked_grows s t u path.names place
   stood_grows s t u place _ = λ p e. e
 
+  -- and the instance behind a name
   pub behind_grows : (s t : Standing P) → Under s t → (m : Meant P) → Le (behind s m) (behind t m)
   behind_grows s t u IsVariable = λ p e. e
   behind_grows s t u (IsInstance place) = λ p e. e
@@ -35,20 +38,25 @@ module _ {P : Type 0} (meant : Spot P → Option (Meant P)) where
   behind_grows s t u (IsFormal place actual) = stood_grows s t u place actual
   behind_grows s t u IsNothing = λ p e. e
 
+  -- the step of standing grows
   pub stand_grows : (s t : Standing P) → Under s t → Under (stand_step meant s) (stand_step meant t)
   stand_grows s t u spot = then_le (meant spot) (meant spot) (behind s) (behind t) (λ m e. e) (behind_grows s t u)
 
   module _ (symbols : Reading) where
+    -- what a path is worth stays so where names are worth more
     at_grows : (s t : Worth P) → Under s t → (path : List Name) (o : Option (Spot P)) → Le (worth_at symbols s path o) (worth_at symbols t path o)
     at_grows s t u path None = λ v e. e
     at_grows s t u path (Some spot) = u spot
 
+    -- so does what the paths of an instance are worth
     reading_grows : (s t : Worth P) → Under s t → (place : P) → Under (reading_by meant symbols s place) (reading_by meant symbols t place)
     reading_grows s t u place path = at_grows s t u path (leads meant place path)
 
+    -- and the value of an expression that is read in an instance
     read_grows : (s t : Worth P) → Under s t → (place : P) (e : Expr) → Le (read_by meant symbols s place e) (read_by meant symbols t place e)
     read_grows s t u place e = let r = reading_grows s t u place in (sense_grows e).value _ _ _ _ (record { now = r; after = r })
 
+    -- and what a name is worth by what it is
     pub worth_of_grows : (state s t : Worth P) → Under s t → (spot : Spot P) (m : Meant P) → Le (worth_of meant symbols state s spot m) (worth_of meant symbols state t spot m)
     worth_of_grows state s t u spot IsVariable = λ v e. e
     worth_of_grows state s t u spot (IsInstance place) = λ v e. e
@@ -56,6 +64,7 @@ module _ {P : Type 0} (meant : Spot P → Option (Meant P)) where
     worth_of_grows state s t u spot (IsFormal place actual) = read_grows s t u place actual
     worth_of_grows state s t u spot IsNothing = λ v e. e
 
+    -- the step of worth grows
     pub worth_grows : (state s t : Worth P) → Under s t → Under (worth_step meant symbols state s) (worth_step meant symbols state t)
     worth_grows state s t u spot = then_le (meant spot) (meant spot) (worth_of meant symbols state s spot) (worth_of meant symbols state t spot) (λ m e. e) (worth_of_grows state s t u spot)
 
