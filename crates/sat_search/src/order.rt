@@ -22,8 +22,8 @@ const SCALE: u32 = 30;
 
 /// The variables by their activity, in a heap, and the value that each had last, TRUE at first.
 ///
-/// The activity of a variable rises with each conflict that it takes part in, by a step that itself
-/// grows, so that later conflicts count for more. Each unassigned variable stands in the heap, and some
+/// The activity of a variable rises with each learnt clause in which it stands, by a step that itself
+/// grows, so that later clauses count for more. Each unassigned variable stands in the heap, and some
 /// assigned ones may. A variable's row in the tables is one less than its number.
 ///
 /// Contracts see the greatest variable alone: which one is decided is free.
