@@ -5,6 +5,7 @@ pub mod SlotLemmas
 pub mod WorthLemmas
 pub mod NumberLemmas
 pub mod OrderLemmas
+pub mod MentionLemmas
 pub mod ItemLemmas
 pub mod RunLemmas
 pub mod RunLaw

@@ -5,6 +5,8 @@ pub mod Instances
 pub mod Known
 pub mod Senses
 pub mod Values
+pub mod Mentions
+pub mod Faults
 pub mod Runs
 pub mod Entries
 pub mod Tree

@@ -2,21 +2,22 @@
 #![tactic(auto)]
 
 mod check;
-mod entries;
+pub mod entries;
 pub mod evaluation;
-mod items;
+pub mod items;
 pub mod least;
-mod net;
-mod operators;
-mod order;
+pub mod mentions;
+pub mod net;
+pub mod operators;
+pub mod order;
 mod run;
-mod scope;
+pub mod scope;
 mod spec;
-mod standing;
-mod symbols;
-mod tree;
+pub mod standing;
+pub mod symbols;
+pub mod tree;
 mod value;
-mod worth;
+pub mod worth;
 
 pub use check::check_run;
 pub use run::{Named, Run, RunAnswer, RunState};
