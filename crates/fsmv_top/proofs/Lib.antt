@@ -1,11 +1,9 @@
-pub mod SetLemmas
-pub mod NamesLemmas
 pub mod ListLemmas
 pub mod AssignLemmas
 pub mod DeclaredLemmas
 pub mod ImposeLemmas
+pub mod ApplyLemmas
 pub mod WordLemmas
 pub mod FeatureRules
-pub mod FeatureAnswers
 pub mod OutputLemmas
 pub mod StopLemmas

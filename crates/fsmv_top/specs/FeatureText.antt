@@ -1,86 +1,123 @@
--- The texts of features that are read now: one feature with one IMPOSE in `main`.
-use Rattle.std.specs.Prelude.{◌≡◌, ℕ, ◌≤◌, [], ◌∷◌, Some, Result, Ok, Err, length, map, codes}
+-- The texts of features that are read now: one feature with one IMPOSE of `init` or `next` in `main`. W stands for
+-- expressions.
+use Rattle.std.specs.Prelude.{ℕ, Bool, ◌&&◌, [], ◌∷◌, Result, Err, codes}
+use Rattle.std.specs.List.{list_all}
 use Rattle.smv_ast.specs.declared.syntax.Span.{Span}
 use Rattle.smv_ast.specs.declared.syntax.Expr.{Expr}
-use Rattle.smv_ast.specs.declared.feature.Action.TheVariants.{Impose}
+use Rattle.smv_ast.specs.declared.program.Left.TheVariants as left
+use Rattle.smv_ast.specs.declared.feature.Action.{Action}
+use Rattle.smv_ast.specs.declared.feature.Action.TheVariants.{Impose, Treat}
 use Rattle.smv_ast.specs.declared.feature.Change.{Change}
 use Rattle.smv_ast.specs.declared.feature.Feature.{Feature}
 use Rattle.smv_ast.specs.declared.fault.Fault.{Fault}
-use Rattle.smv_ast.specs.declared.fault.Fault.TheVariants as fault
-use Rattle.smv_parse.specs.declared.kind.Kind.TheVariants as k
-use Rattle.smv_parse.specs.declared.sections.LeftSide.{LeftSide}
-use Rattle.smv_parse.specs.Lexicon.{Bytes, tokens}
-use Rattle.smv_parse.specs.Language.{Lang, word, name, both, made}
-use Rattle.smv_parse.specs.Reading.{Reader, read_word, read_name, read_both, read_made}
-use Rattle.smv_parse.specs.Grammar.{simple, right, left_side}
-use Rattle.smv_parse.specs.Readers.{read_simple, read_right, read_left_side}
+use Rattle.smv_expr.specs.declared.kind.Kind.TheVariants as k
+use Rattle.smv_expr.specs.Lexicon.{Bytes, tokens}
+use Rattle.smv_expr.specs.Language.{Lang, Tokens, leaf, named, word, name, both, either, made}
+use Rattle.smv_expr.specs.Reading.{Reader, read_leaf, read_word, read_name, read_both, read_either, read_made}
+use Rattle.smv_expr.specs.Limits.{Limit}
+use Rattle.smv_expr.specs.ExprGrammar.{expr}
+use Rattle.smv_expr.specs.ExprAnswer.{is_low}
+use Rattle.smv_expr.specs.Answer.{Answers, Tells, IsText}
+use Rattle.smv_parse.specs.declared.names.LeftSide.{LeftSide}
+use Rattle.smv_parse.specs.Grammar.{name_in_parens, side_of}
+use Rattle.smv_parse.specs.Readers.{the_limit, read_name_in_parens, read_whole_expr}
 use Rattle.fsmv_top.specs.declared.feature_text.ImposeText.{ImposeText}
 
--- ---- the grammar, and the readers of its parts
+-- ---- what the parts make
 
 -- the parts of an IMPOSE that the tree keeps
 abbrev pub impose_of : Span × (LeftSide × (Span × (Expr × Span))) → ImposeText
 impose_of p = record { at = p.0; side = p.1.0; right = p.1.1.1.0 }
 
--- IMPOSE left side := right ;
-abbrev pub impose_text : Lang ImposeText
-impose_text = made impose_of (both (word k.Impose) (both left_side (both (word k.Becomes) (both right (word k.Semicolon)))))
+-- a change of `main`, which stands at its word IMPOSE
+abbrev pub change_in_main : Expr → ImposeText → Change
+change_in_main cond imposed = record { «module» = codes "main"; cond = cond; action = Impose imposed.side.left imposed.side.name imposed.right; at = imposed.at }
 
--- reads an IMPOSE token by token
-unfoldable pub read_impose : Reader ImposeText
-read_impose = read_made impose_of (read_both (read_word k.Impose) (read_both read_left_side (read_both (read_word k.Becomes) (read_both read_right (read_word k.Semicolon)))))
-
--- a change stands at its word IMPOSE
-abbrev pub change_of : Span × (Span × ((Bytes × Span) × (Span × (Expr × (Span × ImposeText))))) → Change
-change_of p =
-    let imposed = p.1.1.1.1.1.1 in
-    record { «module» = p.1.1.0.0; cond = p.1.1.1.1.0; action = Impose imposed.side.left imposed.side.name imposed.right; at = imposed.at }
-
--- CHANGE MODULE id IF simple THEN impose
-abbrev pub change_text : Lang Change
-change_text = made change_of (both (word k.Change) (both (word k.Module) (both name (both (word k.If) (both simple (both (word k.Then) impose_text))))))
-
--- reads a change token by token
-unfoldable pub read_change : Reader Change
-read_change = read_made change_of (read_both (read_word k.Change) (read_both (read_word k.Module) (read_both read_name (read_both (read_word k.If) (read_both read_simple (read_both (read_word k.Then) read_impose))))))
+-- the same, of the parts of its text
+abbrev pub change_of : Span × (Span × (Span × (Span × (Expr × (Span × ImposeText))))) → Change
+change_of p = change_in_main p.1.1.1.1.0 p.1.1.1.1.1.1
 
 -- a feature of one change requires and introduces nothing
 abbrev pub feature_of : Span × ((Bytes × Span) × (Change × Span)) → Feature
 feature_of p = record { name = p.1.0.0; needs = []; joins = []; changes = p.1.1.0 ∷ []; at = p.0 }
 
--- FEATURE id change END
-abbrev pub feature_text : Lang Feature
-feature_text = made feature_of (both (word k.Feature) (both name (both change_text (word k.End))))
+-- ---- the grammar
 
--- reads a feature token by token
-unfoldable pub read_feature : Reader Feature
-read_feature = read_made feature_of (read_both (read_word k.Feature) (read_both read_name (read_both read_change (read_word k.End))))
+-- init ( id ) | next ( id )
+abbrev pub timed_side : Lang LeftSide
+timed_side = either (made (side_of left.Init) (both (word k.Init) name_in_parens)) (made (side_of left.Next) (both (word k.Next) name_in_parens))
+
+-- the name `main`
+abbrev pub main : Lang Span
+main = leaf (named (codes "main"))
+
+module _ (W : Expr → Tokens → Type 0) where
+  -- IMPOSE ( init | next ) ( id ) := expr ;
+  abbrev pub impose_text : Lang ImposeText
+  impose_text = made impose_of (both (word k.Impose) (both timed_side (both (word k.Becomes) (both W (word k.Semicolon)))))
+
+  -- CHANGE MODULE main IF expr THEN impose
+  abbrev pub change_text : Lang Change
+  change_text = made change_of (both (word k.Change) (both (word k.Module) (both main (both (word k.If) (both W (both (word k.Then) impose_text))))))
+
+  -- FEATURE id change END
+  abbrev pub feature_form : Lang Feature
+  feature_form = made feature_of (both (word k.Feature) (both name (both change_text (word k.End))))
+
+-- a feature with fewer constructs open at one place of an expression than the number
+abbrev pub feature_text : ℕ → Feature → Tokens → Type 0
+feature_text m = feature_form (expr m)
+
+-- ---- the readers of its parts
+
+-- init ( id ) | next ( id )
+unfoldable pub read_timed_side : Reader LeftSide
+read_timed_side = read_either (k.Init ∷ []) (read_made (side_of left.Init) (read_both (read_word k.Init) read_name_in_parens)) (read_made (side_of left.Next) (read_both (read_word k.Next) read_name_in_parens))
+
+-- the name `main`
+unfoldable pub read_main : Reader Span
+read_main = read_leaf (named (codes "main"))
+
+module _ (limit : Limit) where
+  -- IMPOSE ( init | next ) ( id ) := expr ;
+  unfoldable pub read_impose : Reader ImposeText
+  read_impose = read_made impose_of (read_both (read_word k.Impose) (read_both read_timed_side (read_both (read_word k.Becomes) (read_both (read_whole_expr limit) (read_word k.Semicolon)))))
+
+  -- CHANGE MODULE main IF expr THEN impose
+  unfoldable pub read_change : Reader Change
+  read_change = read_made change_of (read_both (read_word k.Change) (read_both (read_word k.Module) (read_both read_main (read_both (read_word k.If) (read_both (read_whole_expr limit) (read_both (read_word k.Then) read_impose))))))
+
+  -- FEATURE id change END
+  unfoldable pub read_feature : Reader Feature
+  read_feature = read_made feature_of (read_both (read_word k.Feature) (read_both read_name (read_both read_change (read_word k.End))))
 
 -- ---- whole files
 
--- The bytes of the file are a feature, which is this one, and it changes `main`.
-pub record ReadsFeature (file : ℕ) (bytes : Bytes) (f : Feature) : Type 0 where
-  pub reads : feature_text f (tokens file bytes)
-  pub in_main : map (λ (c : Change). c.«module») f.changes ≡ codes "main" ∷ []
+-- the right side of the action is low
+abbrev pub low_action : Action → Bool
+low_action (Impose of target right) = is_low right
+low_action (Treat path right) = is_low right
 
--- the bytes are this feature and no other
-pub record AcceptsFeature (file : ℕ) (bytes : Bytes) (f : Feature) : Type 0 where
-  pub reads : ReadsFeature file bytes f
-  pub only : (g : Feature) → ReadsFeature file bytes g → g ≡ f
+-- each expression of the change is low
+abbrev pub low_change : Change → Bool
+low_change change = is_low change.cond && low_action change.action
 
--- the bytes are no feature, and the place is in their file
-pub record RefusesFeature (file : ℕ) (bytes : Bytes) (at : Span) : Type 0 where
-  pub in_file : at.file ≡ file
-  pub within : at.at ≤ length bytes
-  pub unread : (f : Feature) → ReadsFeature file bytes f → ⊥
+-- each expression of the feature is low
+abbrev pub low_feature : Feature → Bool
+low_feature f = list_all low_change f.changes
 
--- with which fault the bytes are refused: Syntax, unless memory ran out
-abbrev pub ExplainsFeature : ℕ → Bytes → Fault → Type 0
-ExplainsFeature file bytes (fault.Syntax at) = (place : Span) × (at ≡ Some place) × RefusesFeature file bytes place
-ExplainsFeature file bytes fault.NoMemory = Unit {0}
-ExplainsFeature file bytes _ = ⊥
+-- the reader of features within the limits
+abbrev pub limited_feature : Reader Feature
+limited_feature = read_feature the_limit
 
--- what the reader of a feature answers of a file
-abbrev pub FeatureAnswers : ℕ → Bytes → Result Feature Fault → Type 0
-FeatureAnswers file bytes (Ok f) = AcceptsFeature file bytes f
-FeatureAnswers file bytes (Err f) = ExplainsFeature file bytes f
+-- what is answered of the bytes of a file, unless memory runs out
+abbrev pub FeatureAnswer : ℕ → Bytes → Result Feature Fault → Type 0
+FeatureAnswer = Answers feature_text low_feature limited_feature
+
+-- the bytes of the file are this feature and no other, within the limits of nesting
+abbrev pub ReadsFeature : ℕ → Bytes → Feature → Type 0
+ReadsFeature file bytes f = IsText feature_text low_feature (tokens file bytes) f
+
+-- the bytes of the file are refused with this fault
+abbrev pub RefusesFeature : ℕ → Bytes → Fault → Type 0
+RefusesFeature file bytes f = Tells feature_text low_feature limited_feature file bytes (Err f)

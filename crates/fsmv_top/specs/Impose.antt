@@ -1,8 +1,8 @@
 -- Applying one IMPOSE to a module: `IF c THEN IMPOSE next(x) := e` makes `next(x)` the value of `e` where `c` is true,
 -- and leaves it as it was elsewhere.
-use Rattle.std.specs.Prelude.{ℕ, ◌+◌, Bool, true, false, ◌&&◌, not, List, [], ◌∷◌, ◌++◌, Option, Some, None, if◌then◌else◌, map, find, ℤ, pos, negsuc, min, ◌-◌, ◌^◌}
+use Rattle.std.specs.Prelude.{ℕ, ◌+◌, Bool, true, false, ◌&&◌, not, List, [], ◌∷◌, ◌++◌, Option, Some, None, if◌then◌else◌, map, find, ℤ, pos, negsuc, min, ◌-◌, ◌^◌, is_some}
 use Rattle.std.specs.List.{list_any}
-use Rattle.std.specs.Option.{option_and_then}
+use Rattle.std.specs.Option.{option_and_then, option_map_or}
 use Rattle.std.specs.Str.{bytes_eq}
 use denote.Enum.Bare.{sameb}
 use Rattle.smv_ast.specs.contracts.program.Left.{the_type}
@@ -15,6 +15,7 @@ use Rattle.smv_ast.specs.declared.syntax.Choice.{Choice}
 use Rattle.smv_ast.specs.declared.syntax.Choice.TheVariants as choice
 use Rattle.smv_ast.specs.declared.syntax.Branch.{roll-Branch}
 use Rattle.smv_ast.specs.declared.program.Left.{Left}
+use Rattle.smv_ast.specs.declared.program.Left.TheVariants as left
 use Rattle.smv_ast.specs.declared.program.Declared.{Declared}
 use Rattle.smv_ast.specs.declared.program.Declared.TheVariants.{Plain, Instance}
 use Rattle.smv_ast.specs.declared.program.Assignment.{Assignment}
@@ -22,6 +23,8 @@ use Rattle.smv_ast.specs.declared.program.Section.{Section}
 use Rattle.smv_ast.specs.declared.program.Section.TheVariants as section
 use Rattle.smv_ast.specs.declared.program.Module.{Module}
 use Rattle.smv_ast.specs.declared.program.Program.{Program}
+use Rattle.smv_ast.specs.declared.fault.Fault.{Fault}
+use Rattle.smv_ast.specs.declared.fault.Fault.TheVariants as fault
 use Rattle.fsmv_top.specs.declared.integration.impose.Imposed.{Imposed}
 use Rattle.fsmv_top.specs.Lists.{change_first}
 use Rattle.fsmv_top.specs.UsedNames.{declarations}
@@ -125,3 +128,21 @@ is_named name m = bytes_eq name m.name
 -- the model with the IMPOSE applied to the module of this name
 abbrev pub imposed : Imposed → List ℕ → Program → Program
 imposed i name p = record p { modules = change_first (is_named name) (imposed_in i) p.modules }
+
+-- ---- where it may be applied
+
+-- the sections of the first module of a name
+abbrev pub sections_named : List ℕ → Program → List Section
+sections_named name p = option_map_or (λ m. m.sections) (find (is_named name) p.modules) []
+
+-- an IMPOSE of `x` needs an assignment `x :=`, one of `init(x)` or `next(x)` needs that there is none
+abbrev pub fits_assignments : Left → List ℕ → List Section → Bool
+fits_assignments left.Now name sections = list_any (assigns left.Now name) sections
+fits_assignments left.Init name sections = not (list_any (assigns left.Now name) sections)
+fits_assignments left.Next name sections = not (list_any (assigns left.Now name) sections)
+
+-- why an IMPOSE cannot be applied to these sections: its target has no type, or its form does not fit their assignments
+abbrev pub impose_fault : Span → Left → List ℕ → List Section → Option Fault
+impose_fault at of name sections =
+    if is_some (type_of name sections) then (if fits_assignments of name sections then None else Some (fault.ImposeKind (Some at) name))
+    else Some (fault.ImposeTarget (Some at) name)

@@ -1,7 +1,7 @@
 -- The line or text that a call is to write, and the status that goes with it.
 use Rattle.std.specs.Prelude.{◌≡◌, ℕ, List, Option, ◌⊎◌}
 use Rattle.smv_ast.specs.declared.fault.Fault.{Fault}
-use Rattle.smv_parse.specs.Lexicon.{Bytes}
+use Rattle.smv_expr.specs.Lexicon.{Bytes}
 use Rattle.fsmv_outside.specs.Count.{Rose}
 use Rattle.fsmv_top.specs.declared.status.Status.{Status}
 use Rattle.fsmv_top.specs.declared.status.Status.TheVariants as status

@@ -1,17 +1,14 @@
 -- Why there is no text of a product, step by step.
-use Rattle.std.specs.Prelude.{◌≡◌, ℕ, ◌≤◌, List, Option, Some, None, true, Result, Ok, Err, length, ◌⊎◌}
-use Rattle.smv_ast.specs.declared.syntax.Span.{Span}
+use Rattle.std.specs.Prelude.{◌≡◌, ℕ, ◌≤◌, List, Option, Some, None, Result, Ok, Err, length, ◌⊎◌}
 use Rattle.smv_ast.specs.declared.program.Program.{Program}
 use Rattle.smv_ast.specs.declared.feature.Feature.{Feature}
 use Rattle.smv_ast.specs.declared.fault.Fault.{Fault}
-use Rattle.smv_parse.specs.Lexicon.{Bytes}
-use Rattle.fsmv_outside.specs.Count.{Rose}
 use Rattle.smv_ast.specs.declared.fault.Fault.TheVariants as fault
-use Rattle.fsmv_top.specs.declared.integration.names.MissingName.{MissingName}
-use Rattle.fsmv_top.specs.Words.{lists}
+use Rattle.smv_expr.specs.Lexicon.{Bytes}
+use Rattle.fsmv_outside.specs.Count.{Rose}
 use Rattle.fsmv_top.specs.declared.weave.Stop.{Stop}
 use Rattle.fsmv_top.specs.declared.weave.Stop.TheVariants as stop
-use Rattle.fsmv_top.specs.Weaving.{most_bytes, MayHold, IsTooLong, IsMisread, IsRefused, IsUnread, missing_name, missing_fault, integrated}
+use Rattle.fsmv_top.specs.Weaving.{most_bytes, MayHold, IsTooLong, IsMisread, IsRefused, IsUnread, changes_fault, apply_changes, integration_fault, integrated}
 
 -- these are the file's bytes
 pub record IsRead (told : Option Bytes) (bytes : Bytes) : Type 0 where
@@ -30,32 +27,37 @@ StopsReading file told before after (stop.Unread number) = IsUnreadFile file bef
 StopsReading file told before after stop.NoMemory = Unit {0}
 
 -- nothing of the file: that, or its text is refused
-abbrev pub StopsText : (ℕ → Bytes → Span → Type 0) → ℕ → Option Bytes → ℕ → ℕ → Stop → Type 0
+abbrev pub StopsText : (ℕ → Bytes → Fault → Type 0) → ℕ → Option Bytes → ℕ → ℕ → Stop → Type 0
 StopsText refuses file told before after (stop.Refused f) = IsTooLong file told f ⊎ IsMisread refuses file told f
 StopsText refuses file told before after (stop.Unread number) = IsUnreadFile file before after number
 StopsText refuses file told before after stop.NoMemory = Unit {0}
 
--- no tree of the bytes, since they are refused as Syntax
-abbrev pub IsRefusedText : (ℕ → Bytes → Span → Type 0) → ℕ → Bytes → Stop → Type 0
-IsRefusedText refuses file bytes (stop.Refused f) = (at : Span) × (f ≡ fault.Syntax (Some at)) × refuses file bytes at
+-- no tree of the bytes, since they are refused with this fault
+abbrev pub IsRefusedText : (ℕ → Bytes → Fault → Type 0) → ℕ → Bytes → Stop → Type 0
+IsRefusedText refuses file bytes (stop.Refused f) = refuses file bytes f
 IsRefusedText refuses file bytes (stop.Unread number) = ⊥
 IsRefusedText refuses file bytes stop.NoMemory = Unit {0}
 
+-- what stops where a call answers a fault
+abbrev pub stop_of : Fault → Stop
+stop_of fault.NoMemory = stop.NoMemory
+stop_of f = stop.Refused f
+
+-- the base with the feature applied, or the first cause why it cannot be
+abbrev pub Applies : Program → Feature → Result Program Stop → Type 0
+Applies base feature (Ok p) = (changes_fault feature.name base feature.changes ≡ None) × (p ≡ apply_changes base feature.changes)
+Applies base feature (Err (stop.Refused f)) = changes_fault feature.name base feature.changes ≡ Some f
+Applies base feature (Err (stop.Unread number)) = ⊥
+Applies base feature (Err stop.NoMemory) = Unit {0}
+
 -- the text of the product, which is defined
 pub record IsIntegrated (base : Program) (f : Feature) (product : List ℕ) (p : Program) : Type 0 where
-  pub known : lists product f.name ≡ true → missing_name base f ≡ None
+  pub defined : integration_fault base f product ≡ None
   pub text : p ≡ integrated base f product
 
--- a missing name, which the fault tells
-pub record MissesName (base : Program) (feature : Feature) (product : List ℕ) (f : Fault) : Type 0 where
-  pub applied : lists product feature.name ≡ true
-  pub missing : MissingName
-  pub first : missing_name base feature ≡ Some missing
-  pub told : f ≡ missing_fault feature missing
-
--- no text of the product: a name is missing
+-- no text of the product: the first cause is told
 abbrev pub StopsIntegrating : Program → Feature → List ℕ → Stop → Type 0
-StopsIntegrating base feature product (stop.Refused f) = MissesName base feature product f
+StopsIntegrating base feature product (stop.Refused f) = integration_fault base feature product ≡ Some f
 StopsIntegrating base feature product (stop.Unread number) = ⊥
 StopsIntegrating base feature product stop.NoMemory = Unit {0}
 

@@ -1,39 +1,27 @@
 -- What `weave` writes: the text of one product, the feature integrated where the product lists it.
-use Rattle.std.specs.Prelude.{◌≡◌, ℕ, ◌≤◌, ◌<◌, Bool, true, List, [], ◌∷◌, Option, Some, None, IfSome, length, codes, ◌⊎◌, if◌then◌else◌, find}
-use Rattle.std.specs.Option.{option_or, option_map_or}
+use Rattle.std.specs.Prelude.{◌≡◌, ℕ, ◌≤◌, ◌<◌, List, [], ◌∷◌, Option, Some, None, IfSome, length, Result, Ok, Err, ◌⊎◌, if◌then◌else◌}
+use Rattle.std.specs.Option.{option_map}
 use Rattle.smv_ast.specs.PrintedProgram.{printed_program}
 use Rattle.smv_ast.specs.declared.syntax.Span.{Span}
-use Rattle.smv_ast.specs.declared.program.Section.{Section}
 use Rattle.smv_ast.specs.declared.program.Program.{Program}
+use Rattle.smv_ast.specs.declared.program.Skipped.{Skipped}
 use Rattle.smv_ast.specs.declared.feature.Action.{Action}
 use Rattle.smv_ast.specs.declared.feature.Action.TheVariants.{Impose, Treat}
 use Rattle.smv_ast.specs.declared.feature.Change.{Change}
 use Rattle.smv_ast.specs.declared.feature.Feature.{Feature}
 use Rattle.smv_ast.specs.declared.fault.Fault.{Fault}
 use Rattle.smv_ast.specs.declared.fault.Fault.TheVariants as fault
-use Rattle.smv_parse.specs.Lexicon.{Bytes}
-use Rattle.smv_parse.specs.Grammar.{Reads}
-use Rattle.smv_parse.specs.Answer.{Refuses}
+use Rattle.smv_expr.specs.Lexicon.{Bytes}
+use Rattle.smv_parse.specs.Answer.{Reads, Refuses}
+use Rattle.smv_meaning.specs.Runs.{or_else}
+use Rattle.smv_names.specs.NamesFault.{names_fault}
 use Rattle.fsmv_top.specs.declared.integration.names.MissingName.{MissingName}
 use Rattle.fsmv_top.specs.Words.{lists}
-use Rattle.fsmv_top.specs.UsedNames.{variables, is_among, first_missing}
-use Rattle.fsmv_top.specs.Impose.{is_named, imposed}
+use Rattle.fsmv_top.specs.UsedNames.{first_missing}
+use Rattle.fsmv_top.specs.Impose.{imposed, impose_fault, sections_named}
 use Rattle.fsmv_top.specs.FeatureText.{ReadsFeature, RefusesFeature}
 
 -- ---- integration
-
--- the sections of the module `main`
-abbrev pub main_sections : Program → List Section
-main_sections p = option_map_or (λ m. m.sections) (find (is_named (codes "main")) p.modules) []
-
--- the first name that the changes use and that is no variable of `main`
-abbrev pub missing_in_changes : (List ℕ → Bool) → List Change → Option MissingName
-missing_in_changes knows [] = None
-missing_in_changes knows (change ∷ more) = option_or (first_missing knows change) (missing_in_changes knows more)
-
--- the first name that the feature uses and that is no variable of `main`
-abbrev pub missing_name : Program → Feature → Option MissingName
-missing_name base f = missing_in_changes (is_among (variables (main_sections base))) f.changes
 
 -- an IMPOSE applied to the module that its change names; TREAT is not integrated yet
 abbrev pub apply_action : Change → Action → Program → Program
@@ -48,6 +36,40 @@ apply_change p change = apply_action change change.action p
 abbrev pub apply_changes : Program → List Change → Program
 apply_changes p [] = p
 apply_changes p (change ∷ more) = apply_changes (apply_change p change) more
+
+-- the fault of a missing name. No number of the product is known yet, and the line tells the words' own list.
+abbrev pub missing_fault : List ℕ → MissingName → Fault
+missing_fault feature missing = fault.RequireMissing (Some missing.at) feature missing.name (record { bits = 0 })
+
+-- why an action cannot be applied to a model whose names are known
+abbrev pub action_fault : Program → List ℕ → Span → Action → Option Fault
+action_fault p called at (Impose left name right) = impose_fault at left name (sections_named called p)
+action_fault p called at (Treat path right) = None
+
+-- why a change of a feature cannot be applied to a model: a name that it uses is missing, else its action does not fit
+abbrev pub change_fault : List ℕ → Program → Change → Option Fault
+change_fault feature p change = or_else (option_map (missing_fault feature) (first_missing p change)) (action_fault p change.«module» change.at change.action)
+
+-- the first fault of the changes, each judged on the text as it then is
+abbrev pub changes_fault : List ℕ → Program → List Change → Option Fault
+changes_fault feature p [] = None
+changes_fault feature p (change ∷ more) = or_else (change_fault feature p change) (changes_fault feature (apply_change p change) more)
+
+-- what becomes of a change: the text with it applied, or its fault
+abbrev pub AppliesChange : List ℕ → Program → Change → Result Program Fault → Type 0
+AppliesChange feature p change (Ok q) = (change_fault feature p change ≡ None) × (q ≡ apply_change p change)
+AppliesChange feature p change (Err fault.NoMemory) = Unit {0}
+AppliesChange feature p change (Err f) = change_fault feature p change ≡ Some f
+
+-- the same of changes one after another
+abbrev pub AppliesChanges : List ℕ → Program → List Change → Result Program Fault → Type 0
+AppliesChanges feature p changes (Ok q) = (changes_fault feature p changes ≡ None) × (q ≡ apply_changes p changes)
+AppliesChanges feature p changes (Err fault.NoMemory) = Unit {0}
+AppliesChanges feature p changes (Err f) = changes_fault feature p changes ≡ Some f
+
+-- why there is no text of the product: the names of the base are at fault, or a change of a feature that the product lists
+abbrev pub integration_fault : Program → Feature → List ℕ → Option Fault
+integration_fault base f product = or_else (names_fault base) (if lists product f.name then changes_fault f.name base f.changes else None)
 
 -- the integrated text of the product: the base with the feature applied where the product lists it
 abbrev pub integrated : Program → Feature → List ℕ → Program
@@ -68,21 +90,23 @@ pub record IsTooLong (file : ℕ) (told : Option Bytes) (f : Fault) : Type 0 whe
   pub fault : f ≡ fault.TooLong (Some (record { file = file; at = 0 }))
   pub longer : IfSome told (λ held. most_bytes < length held)
 
--- the file's bytes are refused as Syntax
-pub record IsMisread (refuses : ℕ → Bytes → Span → Type 0) (file : ℕ) (told : Option Bytes) (f : Fault) : Type 0 where
+-- the file's bytes are refused with this fault
+pub record IsMisread (refuses : ℕ → Bytes → Fault → Type 0) (file : ℕ) (told : Option Bytes) (f : Fault) : Type 0 where
   pub bytes : Bytes
   pub held : MayHold told bytes
   pub within : length bytes ≤ most_bytes
-  pub at : Span
-  pub fault : f ≡ fault.Syntax (Some at)
-  pub refused : refuses file bytes at
+  pub refused : refuses file bytes f
+
+-- the bytes are those of a base, its skipped sections left aside
+abbrev pub IsBase : Bytes → Program → Type 0
+IsBase bytes base = (skipped : List Skipped) × Reads 0 bytes (record { program = base; skipped = skipped })
 
 -- the base that file 0 holds
 pub record HoldsBase (told : Option Bytes) (base : Program) : Type 0 where
   pub bytes : Bytes
   pub held : MayHold told bytes
   pub within : length bytes ≤ most_bytes
-  pub reads : Reads 0 bytes base
+  pub reads : IsBase bytes base
 
 -- the feature that file 2 holds
 pub record HoldsFeature (told : Option Bytes) (f : Feature) : Type 0 where
@@ -93,29 +117,22 @@ pub record HoldsFeature (told : Option Bytes) (f : Feature) : Type 0 where
 
 -- ---- the outcomes
 
--- A name is missing. No number of the product is known yet, and the line tells the words' own list.
-abbrev pub missing_fault : Feature → MissingName → Fault
-missing_fault feature missing = fault.RequireMissing (Some missing.at) feature.name missing.name (record { bits = 0 })
-
 -- The words name a base and a feature, the product's integrated text is defined, and this is its canonical text.
 pub record IsWoven (base_told feature_told : Option Bytes) (product : List ℕ) (text : List ℕ) : Type 0 where
   pub base : Program
   pub feature : Feature
   pub holds_base : HoldsBase base_told base
   pub holds_feature : HoldsFeature feature_told feature
-  pub known : lists product feature.name ≡ true → missing_name base feature ≡ None
+  pub defined : integration_fault base feature product ≡ None
   pub printed : text ≡ printed_program (integrated base feature product)
 
--- a feature that is applied uses a name that is no variable of `main`; the first such name is told
-pub record IsMissing (base_told feature_told : Option Bytes) (product : List ℕ) (f : Fault) : Type 0 where
+-- both files are read, and there is no text of the product: this is the first cause
+pub record IsNoText (base_told feature_told : Option Bytes) (product : List ℕ) (f : Fault) : Type 0 where
   pub base : Program
   pub feature : Feature
   pub holds_base : HoldsBase base_told base
   pub holds_feature : HoldsFeature feature_told feature
-  pub applied : lists product feature.name ≡ true
-  pub missing : MissingName
-  pub first : missing_name base feature ≡ Some missing
-  pub fault : f ≡ missing_fault feature missing
+  pub cause : integration_fault base feature product ≡ Some f
 
 -- the feature's file is at fault, and the base is read
 pub record IsFeatureFault (base_told feature_told : Option Bytes) (f : Fault) : Type 0 where
@@ -123,12 +140,12 @@ pub record IsFeatureFault (base_told feature_told : Option Bytes) (f : Fault) : 
   pub holds_base : HoldsBase base_told base
   pub fault : IsTooLong 2 feature_told f ⊎ IsMisread RefusesFeature 2 feature_told f
 
--- Why the files are refused: the base's own fault first, then the feature's, then a missing name.
+-- Why the files are refused: the base's own fault first, then the feature's, then that there is no text of the product.
 pub data IsRefused (base_told feature_told : Option Bytes) (product : List ℕ) (f : Fault) : Type 0 where
   base_too_long : IsTooLong 0 base_told f → IsRefused base_told feature_told product f
   base_misread : IsMisread Refuses 0 base_told f → IsRefused base_told feature_told product f
   feature_refused : IsFeatureFault base_told feature_told f → IsRefused base_told feature_told product f
-  name_missing : IsMissing base_told feature_told product f → IsRefused base_told feature_told product f
+  no_text : IsNoText base_told feature_told product f → IsRefused base_told feature_told product f
 
 -- The file of this number could not be read: the base, or, behind a base that is read, the feature.
 abbrev pub IsUnread : Option Bytes → ℕ → Type 0

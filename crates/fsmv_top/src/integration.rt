@@ -5,5 +5,4 @@ mod impose;
 mod lists;
 mod names;
 
-pub use apply::{apply_changes, missing_name};
-pub use names::MissingName;
+pub use apply::apply_changes;

@@ -68,8 +68,23 @@ fn weaves_one_product(rt: HostRuntime) -> Result<(), Fail> {
     let free = "MODULE main VAR b : boolean;";
     let freed =
         "MODULE main\nVAR\n  b : boolean;\nASSIGN\n  init(b) := case b = TRUE : FALSE; TRUE : {FALSE, TRUE}; esac;\n";
+    let spelled =
+        "MODULE main VAR x : 0..3; y : 0..3; b : boolean; c : boolean; INIT !x = y INVAR b = !c & x in 0..2 ASSIGN next(x) := case x < 2 : x + 1; 1 : 0; esac;";
+    let canonical =
+        "MODULE main\nVAR\n  x : 0..3;\n  y : 0..3;\n  b : boolean;\n  c : boolean;\nINIT !(x = y);\nINVAR (b = (!c)) & (x in 0..2);\nASSIGN\n  next(x) := case x < 2 : x + 1; 1 : 0; esac;\n";
+    let cell =
+        "MODULE main VAR x : boolean; c : cell(x); SPEC AG x MODULE cell(a) VAR y : {up, down}; DEFINE d := a;";
+    let celled =
+        "MODULE main\nVAR\n  x : boolean;\n  c : cell(x);\nASSIGN\n  next(x) := case (c.y = up) & c.d : TRUE; TRUE : {FALSE, TRUE}; esac;\nMODULE cell(a)\nVAR\n  y : {up, down};\nDEFINE\n  d := a;\n";
     let rows = [
         (COUNTER, FAST, "Base,Fast", FASTER),
+        (spelled, FAST, "Base", canonical),
+        (
+            cell,
+            "FEATURE A CHANGE MODULE main IF c.y = up & c.d THEN IMPOSE next(x) := TRUE; END",
+            "A",
+            celled,
+        ),
         (COUNTER, FAST, "Fast", FASTER),
         (COUNTER, FAST, "Base", plain),
         (COUNTER, FAST, "Base,Faster", plain),
@@ -100,6 +115,8 @@ fn weaves_one_product(rt: HostRuntime) -> Result<(), Fail> {
 fn refuses_what_is_at_fault(rt: HostRuntime) -> Result<(), Fail> {
     let unknown = "FEATURE Fast CHANGE MODULE main IF y = 2 THEN IMPOSE next(x) := 3; END";
     let target = "FEATURE Fast CHANGE MODULE main IF x = 2 THEN IMPOSE next(z) := w; END";
+    let path = "FEATURE Fast CHANGE MODULE main IF c.y = 2 THEN IMPOSE next(x) := 3; END";
+    let other = "FEATURE Fast CHANGE MODULE other IF x = 2 THEN IMPOSE next(x) := 3; END";
     let unended = "FEATURE Fast CHANGE MODULE main IF x = 2 THEN IMPOSE next(x) := 3;";
     let rows = [
         (
@@ -114,7 +131,47 @@ fn refuses_what_is_at_fault(rt: HostRuntime) -> Result<(), Fail> {
         ),
         ("MODULE main VAR x 0..3;", FAST, "refused Syntax 0 18\n"),
         ("", FAST, "refused Syntax 0 0\n"),
-        ("MODULE other VAR x : 0..3;", FAST, "refused Syntax 0 0\n"),
+        (
+            "MODULE main VAR x : array 0..1 of boolean;",
+            FAST,
+            "refused LeftOut 0 20 array\n",
+        ),
+        (
+            "MODULE main INIT 2147483648 = 0",
+            FAST,
+            "refused WideNumber 0 17\n",
+        ),
+        (
+            "MODULE other VAR x : 0..3;",
+            FAST,
+            "refused UnknownModule - - main\n",
+        ),
+        (
+            "MODULE main VAR x : 0..3; x : boolean;",
+            FAST,
+            "refused DuplicateName 0 26 x\n",
+        ),
+        (
+            "MODULE main VAR x : 0..3; INIT y.z = 1",
+            FAST,
+            "refused UnknownName 0 31 y.z\n",
+        ),
+        (
+            "MODULE main VAR c : m; x : 0..3; MODULE m",
+            path,
+            "refused RequireMissing 2 35 Fast c.y Base,Fast\n",
+        ),
+        (
+            "MODULE main DEFINE x := 1;",
+            FAST,
+            "refused ImposeTarget 2 46 x\n",
+        ),
+        (
+            "MODULE main VAR x : 0..3; ASSIGN x := 1;",
+            FAST,
+            "refused ImposeKind 2 46 x\n",
+        ),
+        (COUNTER, other, "refused Syntax 2 27\n"),
         (COUNTER, unended, "refused Syntax 2 66\n"),
         (COUNTER, "", "refused Syntax 2 0\n"),
     ];

@@ -2,18 +2,18 @@
 
 ghost use Rattle.std.specs.Prelude.{◌≡◌, ℕ, ◌+◌, ◌≤◌, ◌<◌, ◌^◌, [], IsTrue, IfOk, IfErr, length, vec_len, string_bytes, MatchResult};
 ghost use Rattle.smv_ast.specs.PrintedProgram.{printed_program};
-ghost use Rattle.smv_parse.specs.Grammar.{Reads};
-ghost use Rattle.smv_parse.specs.Answer.{Refuses};
+ghost use Rattle.smv_parse.specs.Answer.{Reads, Refuses};
 ghost use Rattle.fsmv_top.specs.FeatureText.{ReadsFeature, RefusesFeature};
 ghost use Rattle.fsmv_top.specs.Words.{lists};
 ghost use Rattle.fsmv_top.specs.Weaving as spec;
 ghost use Rattle.fsmv_top.specs.Stops as stops;
 
 use crate::feature_text::read_feature;
-use crate::integration::{apply_changes, missing_name};
+use crate::integration::apply_changes;
 use crate::words::{WeaveWords, lists};
 use fsmv_outside::{Files, FilesFault};
-use smv_ast::{Fault, Feature, NoMemory, Product, Program, Span, print_program};
+use smv_ast::{Fault, Feature, NoMemory, Program, Span, print_program};
+use smv_names::check_names;
 use smv_parse::read_program;
 use std::alloc::Global;
 
@@ -77,7 +77,7 @@ fn read_base<F: Files>(alloc: Global, files: &mut F, name: &str) -> Result<Progr
 
 fn base_of(alloc: Global, bytes: &[u8]) -> Result<Program, Stop>
     requires { length bytes.now ≤ 16777216 }
-    ensures ok { IfOk result (Reads 0 bytes.now) }
+    ensures ok { IfOk result (spec.IsBase bytes.now) }
     ensures stopped { IfErr result (stops.IsRefusedText Refuses 0 bytes.now) }
 {
     match read_program(alloc, 0, bytes) {
@@ -112,21 +112,40 @@ fn read_feature_file<F: Files>(alloc: Global, files: &mut F, name: &str) -> Resu
     feature_of(alloc, bytes.as_slice())
 }
 
+/// What stops where a call answers this fault.
+fn stop_of(fault: Fault) -> Stop
+    ensures { result ≡ stops.stop_of fault }
+{
+    match fault {
+        Fault::NoMemory => Stop::NoMemory,
+        other => Stop::Refused(other),
+    }
+}
+
+/// The base with the feature applied.
+fn applied(alloc: Global, base: Program, feature: Feature) -> Result<Program, Stop>
+    ensures { stops.Applies base feature result }
+{
+    let Feature { name, changes, .. } = feature;
+    match apply_changes(alloc, &name, base, changes) {
+        Ok(program) => Ok(program),
+        Err(fault) => Err(stop_of(fault)),
+    }
+}
+
 /// The text of the product: the base with the feature applied where the product lists it.
 fn integrate(alloc: Global, base: Program, feature: Feature, product: &str) -> Result<Program, Stop>
     ensures { stops.Integrates base feature product.now result }
 {
-    if !lists(product, feature.name.as_str()) {
-        return Ok(base);
-    }
-    match missing_name(alloc, &base, &feature)? {
-        Some(missing) => Err(Stop::Refused(Fault::RequireMissing {
-            at: Some(missing.at),
-            feature: feature.name,
-            name: missing.name,
-            product: Product { bits: 0 },
-        })),
-        None => Ok(apply_changes(alloc, base, feature.changes)?),
+    match check_names(alloc, &base) {
+        Ok(()) => {
+            if lists(product, feature.name.as_str()) {
+                applied(alloc, base, feature)
+            } else {
+                Ok(base)
+            }
+        }
+        Err(fault) => Err(stop_of(fault)),
     }
 }
 

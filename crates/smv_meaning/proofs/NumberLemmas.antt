@@ -234,11 +234,11 @@ module _ (program : Program) (tree : Tree) (right : RightTree program tree.rows 
   standing_same = known_same most
 
   -- a declaration by number is the one by place
-  record SameSpot (o : Option (Spot ℕ)) (p : Option (Spot Place)) : Type 0 where
-    same : option_map (λ spot. spot_at (stands spot.place) spot.name) o ≡ p
-    range : (spot : Spot ℕ) → o ≡ Some spot → spot.place < n
+  pub record SameSpot (o : Option (Spot ℕ)) (p : Option (Spot Place)) : Type 0 where
+    pub same : option_map (λ spot. spot_at (stands spot.place) spot.name) o ≡ p
+    pub range : (spot : Spot ℕ) → o ≡ Some spot → spot.place < n
 
-  leads_same : (path : List Name) (r : ℕ) → r < n → SameSpot (leads (meant_in tree) r path) (leads (meant_at program) (stands r) path)
+  pub leads_same : (path : List Name) (r : ℕ) → r < n → SameSpot (leads (meant_in tree) r path) (leads (meant_at program) (stands r) path)
   leads_same [] r h = record { same = refl; range = λ spot e. cc }
   leads_same (name ∷ []) r h = at (meant_in tree (spot_at r name)) (meant_at program (spot_at (stands r) name)) (same_meant r name h).same
     where

@@ -1,20 +1,21 @@
 -- The instances in their order, by number.
-use Rattle.std.proofs.Common.{◌≡◌, ℕ, zero, suc, ◌+◌, ◌-◌, ◌<◌, ◌≤◌, Bool, true, false, List, [], ◌∷◌, ◌++◌, length, map, drop, get_or, Option, Some, None, refl, sym, ap, ◌∙◌, subst, arith, append_assoc, if◌then◌else◌}
+use Rattle.std.proofs.Common.{◌≡◌, ℕ, zero, suc, ◌+◌, ◌<◌, ◌≤◌, Bool, true, false, List, [], ◌∷◌, ◌++◌, length, map, drop, get_or, Option, Some, None, refl, sym, ap, ◌∙◌, subst, arith, append_assoc, if◌then◌else◌}
 use Rattle.std.specs.Prelude.{slice_get, All}
 use Rattle.std.specs.List.{flat_map}
 use Rattle.std.proofs.lemmas.Grind.{flat_map-append}
-use Rattle.std.proofs.lemmas.List.{map-append}
+use Rattle.std.proofs.lemmas.List.{map-append, append-nil}
 use Rattle.std.proofs.lemmas.List.Elements.{All-push}
 use Rattle.smv_ast.specs.declared.syntax.Expr.{Expr}
 use Rattle.smv_ast.specs.declared.program.Program.{Program}
 use Rattle.smv_meaning.specs.declared.tree.Tree.{Tree}
 use Rattle.smv_meaning.specs.declared.tree.Slot.{Slot}
 use Rattle.smv_meaning.specs.declared.tree.Row.{Row}
+use Rattle.smv_meaning.specs.declared.order.Waiting.{Waiting}
 use Rattle.smv_meaning.specs.Value.{Name, and_then}
 use Rattle.smv_meaning.specs.Paths.{Meant, IsVariable, IsInstance, IsDefine, IsFormal, IsNothing}
-use Rattle.smv_meaning.specs.Instances.{Meaning, Variable, Inner, Defined, Formal, Entry, Place, Main, Within, entries, module_at, meaning_at, inner_of, inner_places, from_place, goes_deeper, formal_at, meant_in, actuals_of}
+use Rattle.smv_meaning.specs.Instances.{Meaning, Variable, Inner, Defined, Formal, Entry, Place, Main, Within, entries, module_at, meaning_at, inner_of, from_place, goes_deeper, formal_at, meant_in, actuals_of}
 use Rattle.smv_meaning.specs.Tree.{entries_at, placed, InRange, meant_seen}
-use Rattle.smv_meaning.specs.Checking.{IsRight, stands, slot_in, inner_meant, inner_slot, AreRows}
+use Rattle.smv_meaning.specs.Checking.{IsRight, stands, slot_in, inner_meant, inner_slot, AreRows, waits, waiting_places, AreWaiting}
 use Rattle.smv_meaning.proofs.TreeLemmas.{get_within, names_at, entries_at_index, length_seen}
 use Rattle.smv_meaning.proofs.NumberLemmas.{get_at}
 
@@ -96,17 +97,55 @@ module _ (program : Program) (tree : Tree) (right : IsRight program tree) (row :
   pub names_count : length (entries_at tree.rows row) ≡ length names
   names_count = ap length (names_at program tree.rows row right.rows within)
 
-pub visit_first : (program : Program) (tree : Tree) (row left : ℕ) (old new : List ℕ) → left ≡ suc (left - 1) → new ≡ old ++ row ∷ [] →
-    map (stands tree) new ++ flat_map (from_place (left - 1) program) (inner_places program (stands tree row)) ≡ map (stands tree) old ++ from_place left program (stands tree row)
-visit_first program tree row left old new l e =
-    ap (λ (xs : List ℕ). map (stands tree) xs ++ flat_map (from_place (left - 1) program) (inner_places program (stands tree row))) e
-    ∙ (ap (λ (ps : List Place). ps ++ flat_map (from_place (left - 1) program) (inner_places program (stands tree row))) (map-append (stands tree) old (row ∷ []))
-    ∙ (append_assoc (map (stands tree) old) (stands tree row ∷ []) (flat_map (from_place (left - 1) program) (inner_places program (stands tree row)))
-    ∙ ap (λ (n : ℕ). map (stands tree) old ++ from_place n program (stands tree row)) (sym l)))
+-- one more waits
+pub places_push : (program : Program) (tree : Tree) (ws : List Waiting) (w : Waiting) → waiting_places program tree (ws ++ w ∷ []) ≡ from_place w.left program (stands tree w.row) ++ waiting_places program tree ws
+places_push program tree [] w = sym (append-nil _)
+places_push program tree (x ∷ xs) w =
+    ap (λ (ps : List Place). ps ++ from_place x.left program (stands tree x.row)) (places_push program tree xs w)
+    ∙ append_assoc (from_place w.left program (stands tree w.row)) (waiting_places program tree xs) (from_place x.left program (stands tree x.row))
 
-pub visit_one : (program : Program) (tree : Tree) (row left : ℕ) (old new : List ℕ) → left ≡ 0 → new ≡ old ++ row ∷ [] → map (stands tree) new ≡ map (stands tree) old ++ from_place left program (stands tree row)
-visit_one program tree row left old new l e =
-    ap (map (stands tree)) e ∙ (map-append (stands tree) old (row ∷ []) ∙ ap (λ (n : ℕ). map (stands tree) old ++ from_place n program (stands tree row)) (sym l))
+-- the instance that a name is waits, if it is one
+places_inner : (program : Program) (tree : Tree) (left : ℕ) (ws : List Waiting) (m : Meant ℕ) →
+    waiting_places program tree (ws ++ map (waits left) (inner_meant m)) ≡ flat_map (from_place left program) (map (stands tree) (inner_meant m)) ++ waiting_places program tree ws
+places_inner program tree left ws (IsInstance row) =
+    places_push program tree ws (waits left row) ∙ ap (λ (ps : List Place). ps ++ waiting_places program tree ws) (sym (append-nil (from_place left program (stands tree row))))
+places_inner program tree left ws IsVariable = ap (waiting_places program tree) (append-nil ws)
+places_inner program tree left ws (IsDefine right) = ap (waiting_places program tree) (append-nil ws)
+places_inner program tree left ws (IsFormal row actual) = ap (waiting_places program tree) (append-nil ws)
+places_inner program tree left ws IsNothing = ap (waiting_places program tree) (append-nil ws)
+
+pub places_slot : (program : Program) (tree : Tree) (left : ℕ) (ws : List Waiting) (slot : Option Slot) →
+    waiting_places program tree (ws ++ map (waits left) (inner_slot slot)) ≡ flat_map (from_place left program) (map (stands tree) (inner_slot slot)) ++ waiting_places program tree ws
+places_slot program tree left ws None = ap (waiting_places program tree) (append-nil ws)
+places_slot program tree left ws (Some slot) = places_inner program tree left ws (meant_seen slot.meant)
+
+waiting_inner : (tree : Tree) (left : ℕ) (ws : List Waiting) (m : Meant ℕ) → AreRows tree (inner_meant m) → AreWaiting tree ws → AreWaiting tree (ws ++ map (waits left) (inner_meant m))
+waiting_inner tree left ws (IsInstance row) rows waiting = All-push (λ w. w.row < length tree.rows) ws (waits left row) waiting (rows 0 0 (omega arith))
+waiting_inner tree left ws IsVariable rows waiting = subst (AreWaiting tree) (sym (append-nil ws)) waiting
+waiting_inner tree left ws (IsDefine right) rows waiting = subst (AreWaiting tree) (sym (append-nil ws)) waiting
+waiting_inner tree left ws (IsFormal row actual) rows waiting = subst (AreWaiting tree) (sym (append-nil ws)) waiting
+waiting_inner tree left ws IsNothing rows waiting = subst (AreWaiting tree) (sym (append-nil ws)) waiting
+
+pub waiting_slot : (tree : Tree) (left : ℕ) (ws : List Waiting) (slot : Option Slot) → AreRows tree (inner_slot slot) → AreWaiting tree ws → AreWaiting tree (ws ++ map (waits left) (inner_slot slot))
+waiting_slot tree left ws None rows waiting = subst (AreWaiting tree) (sym (append-nil ws)) waiting
+waiting_slot tree left ws (Some slot) rows waiting = waiting_inner tree left ws (meant_seen slot.meant) rows waiting
+
+-- an instance has its turn, and what it declares waits
+pub turn_taken : (program : Program) (tree : Tree) (old order : List ℕ) (ws popped new : List Waiting) (w : Waiting) → order ≡ old ++ w.row ∷ [] → ws ≡ popped ++ w ∷ [] →
+    stands tree w.row ∷ waiting_places program tree new ≡ from_place w.left program (stands tree w.row) ++ waiting_places program tree popped →
+    map (stands tree) order ++ waiting_places program tree new ≡ map (stands tree) old ++ waiting_places program tree ws
+turn_taken program tree old order ws popped new w e f turn =
+    ap (λ (xs : List ℕ). map (stands tree) xs ++ waiting_places program tree new) e
+    ∙ (ap (λ (ps : List Place). ps ++ waiting_places program tree new) (map-append (stands tree) old (w.row ∷ []))
+    ∙ (append_assoc (map (stands tree) old) (stands tree w.row ∷ []) (waiting_places program tree new)
+    ∙ ap (λ (ps : List Place). map (stands tree) old ++ ps) (turn ∙ (sym (places_push program tree popped w) ∙ ap (waiting_places program tree) (sym f)))))
+
+pub turn_shorter : (program : Program) (tree : Tree) (ws popped new : List Waiting) (w : Waiting) → ws ≡ popped ++ w ∷ [] →
+    stands tree w.row ∷ waiting_places program tree new ≡ from_place w.left program (stands tree w.row) ++ waiting_places program tree popped →
+    length (waiting_places program tree new) < length (waiting_places program tree ws)
+turn_shorter program tree ws popped new w f turn =
+    let same : length (stands tree w.row ∷ waiting_places program tree new) ≡ length (waiting_places program tree ws) = ap length (turn ∙ (sym (places_push program tree popped w) ∙ ap (waiting_places program tree) (sym f))) in
+    omega (arith, same)
 
 pub rows_push : (tree : Tree) (old new : List ℕ) (row : ℕ) → new ≡ old ++ row ∷ [] → row < length tree.rows → AreRows tree old → AreRows tree new
 rows_push tree old new row e h rows = subst (AreRows tree) (sym e) (All-push (λ row. row < length tree.rows) old row rows h)

@@ -1,3 +1,4 @@
+pub mod ByModule
 pub mod Value
 pub mod Least
 pub mod Paths

@@ -1,5 +1,5 @@
 -- The paths that an expression mentions, in the order of the text.
-use Rattle.std.specs.Prelude.{ℕ, List, [], ◌∷◌, ◌++◌, map}
+use Rattle.std.specs.Prelude.{List, [], ◌∷◌, ◌++◌, map}
 use denote.Ref.{Bor}
 use Rattle.smv_ast.specs.declared.syntax.Path.{Path}
 use Rattle.smv_ast.specs.declared.syntax.Expr.{Expr, fold-Expr, Expr-F}

@@ -1,6 +1,6 @@
 -- The table of instances, and when it is right.
-use Rattle.std.specs.Prelude.{◌≡◌, ℕ, ◌+◌, ◌<◌, Bool, if◌then◌else◌, List, [], ◌∷◌, ◌++◌, length, Option, Some, None, slice_get, slice_index_or, IfSome}
-use Rattle.std.specs.List.{fold}
+use Rattle.std.specs.Prelude.{◌≡◌, ℕ, ◌+◌, ◌<◌, ◌≤◌, Bool, if◌then◌else◌, List, [], ◌∷◌, ◌++◌, length, Option, Some, None, slice_get, slice_index_or, IfSome}
+use Rattle.std.specs.List.{fold, flat_map}
 use Rattle.smv_ast.specs.declared.program.Program.{Program}
 use Rattle.smv_meaning.specs.declared.tree.Link.{Link}
 use Rattle.smv_meaning.specs.declared.tree.Row.{Row}
@@ -10,7 +10,7 @@ use Rattle.smv_meaning.specs.declared.tree.Meant.TheVariants as held
 use Rattle.smv_meaning.specs.Value.{Name}
 use Rattle.smv_meaning.specs.Paths.{Meant, IsVariable, IsInstance, IsDefine, IsFormal, IsNothing}
 use Rattle.smv_meaning.specs.Entries.{all_seen, meaning_among}
-use Rattle.smv_meaning.specs.Instances.{Meaning, Inner, Entry, Place, Main, Within, entries, module_at, depth_of, formal_by, meant_by, meant_in}
+use Rattle.smv_meaning.specs.Instances.{Meaning, Inner, Entry, Place, Main, Within, entries, module_at, depth_of, formal_by, meant_by, meant_in, inner_of, instances}
 
 -- what a held meaning of a name says
 abbrev pub meant_seen : HeldMeant → Meant ℕ
@@ -92,6 +92,10 @@ pub record RightSlot (program : Program) (rows : List Row) (r : ℕ) (e : Entry)
 abbrev pub Extends : List Row → List Row → Type 0
 Extends old new = (more : List Row) × (new ≡ old ++ more)
 
+-- the instances that these names declare came behind those of the rows
+abbrev pub AddsInner : Program → ℕ → List Entry → List Row → List Row → Type 0
+AddsInner program r es old new = places new ≡ places old ++ flat_map (λ e. inner_of program (place_at (places old) r) e.name e.meaning) es
+
 -- a right slot came behind these
 abbrev pub AddsSlot : Program → List Row → ℕ → Entry → List Slot → List Slot → Type 0
 AddsSlot program rows r e old new = (slot : Slot) × (new ≡ old ++ slot ∷ []) × RightSlot program rows r e slot
@@ -122,3 +126,8 @@ pub record RightTree (program : Program) (rs : List Row) (firsts : List ℕ) (ss
   pub some : 0 < length rs
   pub count : length firsts ≡ length rs
   pub slots : RightSlots program rs firsts ss
+
+-- there is a row for each instance, and they are fewer than the limit; without rows there are as many instances at least
+abbrev pub Counts : Program → ℕ → Option (List Row) → Type 0
+Counts program most (Some rows) = (length rows ≡ length (instances program)) × (length (instances program) < most)
+Counts program most None = most ≤ length (instances program)

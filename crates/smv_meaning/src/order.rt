@@ -1,6 +1,6 @@
 //! The order of instances: each before those that it declares, those in the order of the text.
 
-ghost use Rattle.std.specs.Prelude.{◌≡◌, ◌++◌, ◌<◌, IfOk, OnOk, length, map};
+ghost use Rattle.std.specs.Prelude.{◌≡◌, ◌∷◌, ◌++◌, ◌<◌, IfOk, OnOk, length, map};
 ghost use Rattle.std.specs.List.{flat_map};
 ghost use Rattle.smv_meaning.specs.Instances.{from_place, instances};
 ghost use Rattle.smv_meaning.specs.Tree.{entries_at};
@@ -36,52 +36,50 @@ fn count_of(tree: &Tree, row: usize) -> usize
     rows[row].entries.len()
 }
 
-/// Goes through the instance that a slot declares, if it does.
-#[cycle(visiting)]
-fn visit_slot(
-    program: &Program,
-    tree: &Tree,
-    left: usize,
-    slot: Option<Slot>,
-    order: &mut List<usize>,
-) -> Result<(), NoMemory>
-    requires right { spec.IsRight program.now tree.now }
-    requires rows { spec.AreRows tree.now (spec.inner_slot slot) }
-    ensures rows { OnOk result (spec.AreRows tree.now order.old → spec.AreRows tree.now order.new) }
-    ensures order { OnOk result (map (spec.stands tree.now) order.new
-        ≡ map (spec.stands tree.now) order.old ++ flat_map (from_place left program.now) (map (spec.stands tree.now) (spec.inner_slot slot.entry))) }
+/// An instance that is to be gone through, with all below it down to a depth.
+#[derive(Clone, Copy, Drop)]
+pub struct Waiting {
+    pub row: usize,
+    pub left: usize,
+}
+
+/// Puts the instance that a slot declares on top of those that wait, if it declares one.
+fn push_slot(waiting: &mut List<Waiting>, left: usize, slot: Option<Slot>) -> Result<(), NoMemory>
+    ensures { OnOk result (waiting.new ≡ waiting.old ++ map (spec.waits left) (spec.inner_slot slot.entry)) }
 {
-    match slot {
-        Some(slot) => match slot.meant {
-            Meant::Instance(row) => visit(program, tree, left, row, order),
-            _ => Ok(()),
-        },
-        None => Ok(()),
+    let Some(slot) = slot else {
+        return Ok(());
+    };
+    match slot.meant {
+        Meant::Instance(row) => {
+            waiting.push(Waiting { row, left })?;
+            Ok(())
+        }
+        _ => Ok(()),
     }
 }
 
-/// Goes through an instance and those below it, down to a depth.
-#[cycle(visiting)]
-fn visit(
+/// Puts the instances that an instance declares on top of those that wait, its first uppermost, if it
+/// is to be gone through so far.
+fn push_inner(
     program: &Program,
     tree: &Tree,
-    left: usize,
-    row: usize,
-    order: &mut List<usize>,
+    waiting: &mut List<Waiting>,
+    next: Waiting,
 ) -> Result<(), NoMemory>
     requires right { spec.IsRight program.now tree.now }
-    requires row { row < length tree.now.rows }
-    ensures rows { OnOk result (spec.AreRows tree.now order.old → spec.AreRows tree.now order.new) }
-    ensures order { OnOk result (map (spec.stands tree.now) order.new
-        ≡ map (spec.stands tree.now) order.old ++ from_place left program.now (spec.stands tree.now row)) }
+    requires row { next.row < length tree.now.rows }
+    ensures rows { OnOk result (spec.AreWaiting tree.now waiting.old → spec.AreWaiting tree.now waiting.new) }
+    ensures waiting { OnOk result (spec.stands tree.now next.row ∷ spec.waiting_places program.now tree.now waiting.new
+        ≡ from_place next.left program.now (spec.stands tree.now next.row) ++ spec.waiting_places program.now tree.now waiting.old) }
 {
-    order.push(row)?;
-    if left == 0 {
+    if next.left == 0 {
         return Ok(());
     }
-    let count = count_of(tree, row);
-    for k in 0..count {
-        visit_slot(program, tree, left - 1, slot_in(tree, row, k), order)?;
+    let mut k = count_of(tree, next.row);
+    'inner: while k > 0 {
+        k -= 1;
+        push_slot(waiting, next.left - 1, slot_in(tree, next.row, k))?;
     }
     Ok(())
 }
@@ -93,6 +91,14 @@ pub fn order_of(alloc: Global, program: &Program, tree: &Tree) -> Result<List<us
     ensures order { IfOk result (λ order. map (spec.stands tree.now) order ≡ instances program.now) }
 {
     let mut order = List::new(alloc);
-    visit(program, tree, program.modules.len(), 0, &mut order)?;
+    let mut waiting = List::new(alloc);
+    waiting.push(Waiting {
+        row: 0,
+        left: program.modules.len(),
+    })?;
+    'turns: while let Some(next) = waiting.pop() {
+        order.push(next.row)?;
+        push_inner(program, tree, &mut waiting, next)?;
+    }
     Ok(order)
 }

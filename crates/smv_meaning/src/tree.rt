@@ -6,13 +6,15 @@ ghost use Rattle.smv_ast.specs.declared.program.Program.{Program};
 ghost use Rattle.smv_meaning.specs.Value.{and_then};
 ghost use Rattle.smv_meaning.specs.Instances as spec;
 ghost use Rattle.smv_meaning.specs.Entries.{seen, all_seen, scope_seen, scopes_of, meaning_seen};
+ghost use Rattle.smv_meaning.specs.ByModule.{TellsModules};
 ghost use Rattle.smv_meaning.specs.Tree as tree;
 
 use crate::entries::{Entry, Meaning};
-use crate::scope::{Scope, entries_named, meaning_named};
+use crate::scope::{Scope, entries_named, meaning_named, modules_by_name};
 use smv_ast::{Expr, List, NoMemory, Program, Text};
 use sqlite_items::at;
 use std::alloc::Global;
+use std::collections::HashMap;
 
 /// Where an instance is declared: the number of its outer instance, its name there, and the name of
 /// its module.
@@ -120,6 +122,7 @@ fn called_by<'a>(deeper: bool, meaning: Meaning<'a>) -> Option<&'a Text>
 fn grow<'s, 'a>(
     program: &Program,
     scopes: &'s [Scope<'a>],
+    numbers: &HashMap<&'a str, usize>,
     rows: &mut List<Row<'s, 'a>>,
     slots: &mut List<Slot<'a>>,
     r: usize,
@@ -127,10 +130,12 @@ fn grow<'s, 'a>(
     entry: Entry<'a>,
 ) -> Result<(), NoMemory>
     requires scopes { map scope_seen scopes.now ≡ scopes_of program.now }
+    requires numbers { TellsModules scopes.now numbers.now }
     requires rows { tree.RightRows program.now rows.old }
     requires row { slice_get rows.old r ≡ Some row }
     ensures extends { OnOk result (tree.Extends rows.old rows.new) }
     ensures rows { OnOk result (tree.RightRows program.now rows.new) }
+    ensures inner { OnOk result (tree.AddsInner program.now r (seen entry.entry ∷ []) rows.old rows.new) }
     ensures slots { OnOk result (tree.AddsSlot program.now rows.new r (seen entry.entry) slots.old slots.new) }
 {
     let deeper = row.depth < program.modules.len();
@@ -155,7 +160,7 @@ fn grow<'s, 'a>(
     };
     rows.push(Row {
         link: Some(link),
-        entries: entries_named(scopes, called.as_str()),
+        entries: entries_named(scopes, numbers, called.as_str()),
         depth: row.depth + 1,
     })?;
     Ok(())
@@ -165,22 +170,25 @@ fn grow<'s, 'a>(
 fn expand<'s, 'a>(
     program: &Program,
     scopes: &'s [Scope<'a>],
+    numbers: &HashMap<&'a str, usize>,
     rows: &mut List<Row<'s, 'a>>,
     slots: &mut List<Slot<'a>>,
     r: usize,
     row: Row<'s, 'a>,
 ) -> Result<(), NoMemory>
     requires scopes { map scope_seen scopes.now ≡ scopes_of program.now }
+    requires numbers { TellsModules scopes.now numbers.now }
     requires rows { tree.RightRows program.now rows.old }
     requires row { slice_get rows.old r ≡ Some row }
     ensures extends { OnOk result (tree.Extends rows.old rows.new) }
     ensures rows { OnOk result (tree.RightRows program.now rows.new) }
+    ensures inner { OnOk result (tree.AddsInner program.now r (all_seen row.entry.entries.now) rows.old rows.new) }
     ensures behind { OnOk result (tree.SlotsBehind (length row.entry.entries.now) slots.old slots.new) }
     ensures slots { OnOk result (tree.RightUpTo program.now rows.new slots.new r (length slots.old)
         (all_seen row.entry.entries.now) (length row.entry.entries.now)) }
 {
     for entry in row.entries {
-        grow(program, scopes, rows, slots, r, row, *entry)?;
+        grow(program, scopes, numbers, rows, slots, r, row, *entry)?;
     }
     Ok(())
 }
@@ -202,14 +210,16 @@ pub fn tree_of<'s, 'a>(
     most: usize,
 ) -> Result<Option<Tree<'s, 'a>>, NoMemory>
     requires scopes { map scope_seen scopes.now ≡ scopes_of program.now }
-    ensures { IfOk result (λ t. IfSome t (λ t. tree.RightTree program.now t.rows t.firsts t.slots)) }
+    ensures right { IfOk result (λ t. IfSome t (λ t. tree.RightTree program.now t.rows t.firsts t.slots)) }
+    ensures count { IfOk result (λ t. tree.Counts program.now most (option_map (λ t. t.rows) t)) }
 {
+    let numbers = modules_by_name(alloc, scopes)?;
     let mut rows = List::new(alloc);
     let mut firsts = List::new(alloc);
     let mut slots = List::new(alloc);
     rows.push(Row {
         link: None,
-        entries: entries_named(scopes, "main"),
+        entries: entries_named(scopes, &numbers, "main"),
         depth: 0,
     })?;
     for r in 0..most {
@@ -221,7 +231,7 @@ pub fn tree_of<'s, 'a>(
             }));
         };
         firsts.push(slots.len())?;
-        expand(program, scopes, &mut rows, &mut slots, r, row)?;
+        expand(program, scopes, &numbers, &mut rows, &mut slots, r, row)?;
     }
     Ok(None)
 }

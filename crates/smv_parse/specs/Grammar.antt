@@ -1,99 +1,77 @@
--- The grammar of models. Each value is the tree that a list of tokens stands for, with its places: an item's is that
--- of its first token.
-use Rattle.std.specs.Prelude.{◌≡◌, ℕ, List, [], ◌∷◌, Option, Some, None, map, codes, pos}
+-- The grammar of models, over the language W of their expressions. Each value is the tree that a list of tokens stands for,
+-- with its places: an item's is that of its first token.
+use Rattle.std.specs.Prelude.{◌≡◌, ℕ, ℤ, false, List, [], ◌∷◌, ◌++◌, fold, codes}
 use Rattle.smv_ast.specs.declared.syntax.Span.{Span}
-use Rattle.smv_ast.specs.declared.syntax.Op.{Op}
-use Rattle.smv_ast.specs.declared.syntax.Op.TheVariants as op
 use Rattle.smv_ast.specs.declared.syntax.Expr.{Expr}
-use Rattle.smv_ast.specs.declared.syntax.Expr.TheVariants as e
-use Rattle.smv_ast.specs.declared.syntax.Branch.{Branch, roll-Branch}
 use Rattle.smv_ast.specs.declared.syntax.SmvType.{SmvType}
 use Rattle.smv_ast.specs.declared.syntax.SmvType.TheVariants as type
+use Rattle.smv_ast.specs.declared.program.Declared.{Declared}
 use Rattle.smv_ast.specs.declared.program.Declared.TheVariants as declared
 use Rattle.smv_ast.specs.declared.program.Declaration.{Declaration}
 use Rattle.smv_ast.specs.declared.program.Left.{Left}
 use Rattle.smv_ast.specs.declared.program.Left.TheVariants as left
 use Rattle.smv_ast.specs.declared.program.Assignment.{Assignment}
+use Rattle.smv_ast.specs.declared.program.Definition.{Definition}
 use Rattle.smv_ast.specs.declared.program.Section.{Section}
 use Rattle.smv_ast.specs.declared.program.Section.TheVariants as section
-use Rattle.smv_ast.specs.declared.program.Module.{Module}
-use Rattle.smv_ast.specs.declared.program.Program.{Program}
-use Rattle.smv_parse.specs.declared.kind.Kind.{Kind}
-use Rattle.smv_parse.specs.declared.kind.Kind.TheVariants as k
-use Rattle.smv_parse.specs.declared.sections.LeftSide.{LeftSide}
-use Rattle.smv_parse.specs.Lexicon.{Bytes, tokens}
-use Rattle.smv_parse.specs.Language.{Lang, word, name, numeral, one_of, both, many, opt, either, made}
+use Rattle.smv_ast.specs.declared.program.Skipped.{Skipped}
+use Rattle.smv_expr.specs.declared.kind.Kind.{Kind}
+use Rattle.smv_expr.specs.declared.kind.Kind.TheVariants as k
+use Rattle.smv_expr.specs.Lexicon.{Bytes}
+use Rattle.smv_expr.specs.Language.{Lang, Tokens, word, name, both, many, opt, either, made, nothing, has}
+use Rattle.smv_expr.specs.ExprGrammar.{sign, up_to, expr}
+use Rattle.smv_parse.specs.declared.names.LeftSide.{LeftSide}
+use Rattle.smv_parse.specs.declared.sections.Part.{Part}
+use Rattle.smv_parse.specs.declared.sections.Part.TheVariants as part
+use Rattle.smv_parse.specs.declared.sections.Parts.{Parts}
+use Rattle.smv_parse.specs.declared.program.ModuleReading.{ModuleReading}
+use Rattle.smv_parse.specs.declared.program.Reading.{Reading}
 
--- ---- expressions
+-- ---- lists
 
--- a numeral as an expression
-abbrev pub number_expr : ℕ × Span → Expr
-number_expr n = e.Number n.0
+-- , id
+abbrev pub next_name : Lang Bytes
+next_name = made (λ p. p.1.0) (both (word k.Comma) name)
 
--- a name as an expression: a path of one name, at its place
-abbrev pub name_expr : Bytes × Span → Expr
-name_expr n = e.Name (record { names = n.0 ∷ []; at = n.1 })
+-- the names of a list
+abbrev pub names_of : (Bytes × Span) × List Bytes → List Bytes
+names_of p = p.0.0 ∷ p.1
 
--- TRUE | FALSE | numeral | id
-abbrev pub atom : Lang Expr
-atom = either (made (λ at. e.True) (word k.True)) (
-    either (made (λ at. e.False) (word k.False)) (
-    either (made number_expr numeral) (made name_expr name)))
+-- id { , id }
+abbrev pub names : Lang (List Bytes)
+names = made names_of (both name (many next_name))
 
--- the marks of the operators
-abbrev pub operators : List (Kind × Op)
-operators =
-    (k.Plus, op.Add) ∷ (k.Minus, op.Sub) ∷ (k.Equal, op.Eq) ∷ (k.NotEqual, op.Ne) ∷ (k.Less, op.Lt) ∷ (k.Greater, op.Gt)
-    ∷ (k.LessEqual, op.Le) ∷ (k.GreaterEqual, op.Ge) ∷ (k.And, op.And) ∷ (k.Or, op.Or) ∷ []
+-- ( [ id { , id } ] )
+abbrev pub formals : Lang (List Bytes)
+formals = made (λ p. p.1.0) (both (word k.OpenParen) (both (either names (nothing [])) (word k.CloseParen)))
 
--- one operand, or two with an operator
-abbrev pub simple_of : Expr → Option (Op × Expr) → Expr
-simple_of a None = a
-simple_of a (Some b) = e.Binary b.0 a b.1
+-- ---- types
 
--- atom [ operator atom ]
-abbrev pub simple : Lang Expr
-simple = made (λ p. simple_of p.0 p.1) (both atom (opt (both (one_of operators) atom)))
+-- , sign
+abbrev pub next_sign : Lang ℤ
+next_sign = made (λ p. p.1) (both (word k.Comma) sign)
 
--- the tree of a branch
-abbrev pub branch_of : Expr × (Span × (Expr × Span)) → Branch
-branch_of p = roll-Branch (record { cond = p.0; value = p.1.1.0 })
+-- sign { , sign }
+abbrev pub numbers : Lang SmvType
+numbers = made (λ p. type.Numbers (p.0 ∷ p.1)) (both sign (many next_sign))
 
--- simple : simple ;
-abbrev pub branch : Lang Branch
-branch = made branch_of (both simple (both (word k.Colon) (both simple (word k.Semicolon))))
+-- id { , id }
+abbrev pub symbols : Lang SmvType
+symbols = made type.Symbols names
 
--- the tree of a case
-abbrev pub cases_of : Span × (Branch × (List Branch × Span)) → Expr
-cases_of p = e.Cases (p.1.0 ∷ p.1.1.0)
+-- { sign { , sign } } | { id { , id } }
+abbrev pub enumeration : Lang SmvType
+enumeration = made (λ p. p.1.0) (both (word k.OpenBrace) (both (either numbers symbols) (word k.CloseBrace)))
 
--- case branch { branch } esac
-abbrev pub cases : Lang Expr
-cases = made cases_of (both (word k.Case) (both branch (both (many branch) (word k.Esac))))
+-- sign .. sign
+abbrev pub range : Lang SmvType
+range = made (λ p. type.Range p.0 p.1) (both sign up_to)
 
--- the right side of an assignment
-abbrev pub right : Lang Expr
-right = either cases simple
-
--- ---- declarations
-
--- the type of the whole numbers from the one to the other
-abbrev pub range_of : (ℕ × Span) × (Span × (ℕ × Span)) → SmvType
-range_of p = type.Range (pos p.0.0) (pos p.1.1.0)
-
--- boolean | numeral .. numeral
+-- boolean | { .. } | sign .. sign
 abbrev pub smv_type : Lang SmvType
-smv_type = either (made (λ at. type.Boolean) (word k.Boolean)) (made range_of (both numeral (both (word k.DotDot) numeral)))
+smv_type = either (made (λ at. type.Boolean) (word k.Boolean)) (either enumeration range)
 
--- the tree of a declaration, which stands at its name
-abbrev pub declaration_of : (Bytes × Span) × (Span × (SmvType × Span)) → Declaration
-declaration_of p = record { name = p.0.0; what = declared.Plain p.1.1.0; at = p.0.1 }
-
--- id : type ;
-abbrev pub declaration : Lang Declaration
-declaration = made declaration_of (both name (both (word k.Colon) (both smv_type (word k.Semicolon))))
-
--- ---- assignments
+-- ---- left sides
 
 -- ( id )
 abbrev pub name_in_parens : Lang Bytes
@@ -103,43 +81,157 @@ name_in_parens = made (λ p. p.1.0.0) (both (word k.OpenParen) (both name (word 
 abbrev pub side_of : Left → Span × Bytes → LeftSide
 side_of of p = record { left = of; name = p.1; at = p.0 }
 
--- init ( id ) | next ( id )
+-- the tree of a left side that is a name alone
+abbrev pub bare_side_of : Bytes × Span → LeftSide
+bare_side_of n = record { left = left.Now; name = n.0; at = n.1 }
+
+-- init ( id ) | next ( id ) | id
 abbrev pub left_side : Lang LeftSide
-left_side = either (made (side_of left.Init) (both (word k.Init) name_in_parens)) (made (side_of left.Next) (both (word k.Next) name_in_parens))
+left_side = either (made (side_of left.Init) (both (word k.Init) name_in_parens)) (
+    either (made (side_of left.Next) (both (word k.Next) name_in_parens)) (made bare_side_of name))
+
+-- ---- skipped text
+
+-- the words that end skipped text: those of sections and of skipped sections, and those that begin or end greater parts
+abbrev pub skip_ends : List Kind
+skip_ends =
+    k.Var ∷ k.Assign ∷ k.Define ∷ k.InitSection ∷ k.InvarSection ∷ k.TransSection ∷ k.InvarSpec
+    ∷ k.Spec ∷ k.CtlSpec ∷ k.LtlSpec ∷ k.Fairness ∷ k.Justice ∷ k.Compassion
+    ∷ k.Module ∷ k.Feature ∷ k.Require ∷ k.Introduce ∷ k.Change ∷ k.End ∷ []
+
+-- any tokens but these words
+abbrev pub skipped_text : Lang (Unit {0})
+skipped_text u [] = Unit {0}
+skipped_text u (t ∷ ts) = (has skip_ends t.kind ≡ false) × skipped_text u ts
+
+-- a skipped section by its word
+abbrev pub skipped_as : Bytes → Span → Skipped
+skipped_as text at = record { word = text; at = at }
+
+-- SPEC | CTLSPEC | LTLSPEC | FAIRNESS | JUSTICE | COMPASSION
+abbrev pub skip_word : Lang Skipped
+skip_word =
+    either (made (skipped_as (codes "SPEC")) (word k.Spec)) (
+    either (made (skipped_as (codes "CTLSPEC")) (word k.CtlSpec)) (
+    either (made (skipped_as (codes "LTLSPEC")) (word k.LtlSpec)) (
+    either (made (skipped_as (codes "FAIRNESS")) (word k.Fairness)) (
+    either (made (skipped_as (codes "JUSTICE")) (word k.Justice)) (made (skipped_as (codes "COMPASSION")) (word k.Compassion))))))
+
+-- a skipped section, which stands at its word
+abbrev pub skipped : Lang Skipped
+skipped = made (λ p. p.0) (both skip_word skipped_text)
+
+-- ---- what the parts make
+
+-- the tree of an instance
+abbrev pub instance_of : (Bytes × Span) × List Expr → Declared
+instance_of p = declared.Instance p.0.0 p.1
+
+-- the tree of a declaration, which stands at its name
+abbrev pub declaration_of : (Bytes × Span) × (Span × (Declared × Span)) → Declaration
+declaration_of p = record { name = p.0.0; what = p.1.1.0; at = p.0.1 }
 
 -- the tree of an assignment, which stands at its left side
 abbrev pub assignment_of : LeftSide × (Span × (Expr × Span)) → Assignment
 assignment_of p = record { left = p.0.left; name = p.0.name; right = p.1.1.0; at = p.0.at }
 
--- left side := right ;
-abbrev pub assignment : Lang Assignment
-assignment = made assignment_of (both left_side (both (word k.Becomes) (both right (word k.Semicolon))))
+-- the tree of a definition, which stands at its name
+abbrev pub definition_of : (Bytes × Span) × (Span × (Expr × Span)) → Definition
+definition_of p = record { name = p.0.0; right = p.1.1.0; at = p.0.1 }
 
--- ---- modules
+-- no sections at all
+abbrev pub no_parts : Parts
+no_parts = record { sections = []; skipped = [] }
 
--- the tree of an INVARSPEC, which stands at its word
-abbrev pub invar_spec_of : Span × (Expr × Option Span) → Section
-invar_spec_of p = section.InvarSpec p.1.0 p.0
+-- one more section, or one more that is skipped
+abbrev pub with_part : Parts → Part → Parts
+with_part parts (part.Section s) = record parts { sections = parts.sections ++ s ∷ [] }
+with_part parts (part.Skipped s) = record parts { skipped = parts.skipped ++ s ∷ [] }
 
--- VAR { declaration } | ASSIGN { assignment } | INVARSPEC simple [ ; ]
-abbrev pub one_section : Lang Section
-one_section = either (made (λ p. section.Vars p.1) (both (word k.Var) (many declaration))) (
-    either (made (λ p. section.Assigns p.1) (both (word k.Assign) (many assignment)))
-    (made invar_spec_of (both (word k.InvarSpec) (both simple (opt (word k.Semicolon))))))
+-- the sections in their order, and those that are skipped in theirs
+abbrev pub parts_of : List Part → Parts
+parts_of = fold with_part no_parts
 
 -- the tree of a module, which stands at its word MODULE
-abbrev pub module_of : Span × ((Bytes × Span) × List Section) → Module
-module_of p = record { name = p.1.0.0; formals = []; sections = p.1.1; at = p.0 }
-
--- MODULE id { section }
-abbrev pub one_module : Lang Module
-one_module = made module_of (both (word k.Module) (both name (many one_section)))
+abbrev pub module_of : Span × ((Bytes × Span) × (List Bytes × Parts)) → ModuleReading
+module_of p = record {
+  «module» = record { name = p.1.0.0; formals = p.1.1.0; sections = p.1.1.1.sections; at = p.0 };
+  skipped = p.1.1.1.skipped;
+}
 
 -- a model of one module
-abbrev pub program : Lang Program
-program = made (λ m. record { modules = m ∷ [] }) one_module
+abbrev pub alone : ModuleReading → Reading
+alone m = record { program = record { modules = m.«module» ∷ [] }; skipped = m.skipped }
 
--- The bytes of the file are a model, which is this program. Its one module is `main`.
-pub record Reads (file : ℕ) (bytes : Bytes) (p : Program) : Type 0 where
-  pub reads : program p (tokens file bytes)
-  pub is_main : map (λ (m : Module). m.name) p.modules ≡ codes "main" ∷ []
+-- the model with one more module behind the others
+abbrev pub with_module : Reading → ModuleReading → Reading
+with_module r m = record { program = record { modules = r.program.modules ++ m.«module» ∷ [] }; skipped = r.skipped ++ m.skipped }
+
+-- ---- sections. W stands for expressions.
+
+module _ (W : Expr → Tokens → Type 0) where
+  -- , expr
+  abbrev pub next_expr : Lang Expr
+  next_expr = made (λ p. p.1) (both (word k.Comma) W)
+
+  -- expr { , expr }
+  abbrev pub exprs : Lang (List Expr)
+  exprs = made (λ p. p.0 ∷ p.1) (both W (many next_expr))
+
+  -- ( [ expr { , expr } ] )
+  abbrev pub actuals : Lang (List Expr)
+  actuals = made (λ p. p.1.0) (both (word k.OpenParen) (both (either exprs (nothing [])) (word k.CloseParen)))
+
+  -- id [ ( [ expr { , expr } ] ) ]
+  abbrev pub instance : Lang Declared
+  instance = made instance_of (both name (either actuals (nothing [])))
+
+  -- type | instance
+  abbrev pub declared_as : Lang Declared
+  declared_as = either (made declared.Plain smv_type) instance
+
+  -- id : ( type | instance ) ;
+  abbrev pub declaration : Lang Declaration
+  declaration = made declaration_of (both name (both (word k.Colon) (both declared_as (word k.Semicolon))))
+
+  -- left side := expr ;
+  abbrev pub assignment : Lang Assignment
+  assignment = made assignment_of (both left_side (both (word k.Becomes) (both W (word k.Semicolon))))
+
+  -- id := expr ;
+  abbrev pub definition : Lang Definition
+  definition = made definition_of (both name (both (word k.Becomes) (both W (word k.Semicolon))))
+
+  -- a word, then expr [ ; ]
+  abbrev pub constraint : Kind → Span × Expr → Tokens → Type 0
+  constraint kind = made (λ p. (p.0, p.1.0)) (both (word kind) (both W (opt (word k.Semicolon))))
+
+  -- VAR { declaration } | ASSIGN { assignment } | DEFINE { definition } | ( INIT | INVAR | TRANS | INVARSPEC ) expr [ ; ]
+  abbrev pub one_section : Lang Section
+  one_section =
+      either (made (λ p. section.Vars p.1) (both (word k.Var) (many declaration))) (
+      either (made (λ p. section.Assigns p.1) (both (word k.Assign) (many assignment))) (
+      either (made (λ p. section.Defines p.1) (both (word k.Define) (many definition))) (
+      either (made (λ p. section.Init p.1 p.0) (constraint k.InitSection)) (
+      either (made (λ p. section.Invar p.1 p.0) (constraint k.InvarSection)) (
+      either (made (λ p. section.Trans p.1 p.0) (constraint k.TransSection)) (made (λ p. section.InvarSpec p.1 p.0) (constraint k.InvarSpec)))))))
+
+  -- a section, or one that is skipped
+  abbrev pub one_part : Lang Part
+  one_part = either (made part.Section one_section) (made part.Skipped skipped)
+
+  -- { section }
+  abbrev pub all_parts : Lang Parts
+  all_parts = made parts_of (many one_part)
+
+  -- MODULE id [ ( [ id { , id } ] ) ] { section }
+  abbrev pub one_module : Lang ModuleReading
+  one_module = made module_of (both (word k.Module) (both name (both (either formals (nothing [])) all_parts)))
+
+  -- module { module }
+  abbrev pub program_of : Lang Reading
+  program_of = made (λ p. fold with_module p.0 p.1) (both (made alone one_module) (many one_module))
+
+-- a model with fewer constructs open at one place of an expression than the number
+abbrev pub program : ℕ → Reading → Tokens → Type 0
+program m = program_of (expr m)

@@ -1,13 +1,5 @@
-pub mod Lexicon
-pub mod Ahead
-pub mod Language
-pub mod Reading
 pub mod Grammar
 pub mod Readers
-pub mod ExprGrammar
-pub mod ExprReaders
-pub mod Heights
-pub mod Limits
+pub mod Low
 pub mod Answer
-pub mod Nests
-pub mod ExprAnswer
+pub mod ReadingBack

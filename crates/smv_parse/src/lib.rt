@@ -1,21 +1,14 @@
-//! Reads the text of models: tokens, the grammar, and where a text leaves it.
+//! Reads the text of models, and says where a text leaves their grammar.
 #![tactic(auto)]
 
-pub mod answer;
-pub mod cursor;
-pub mod error;
-pub mod expr;
-pub mod expression;
-pub mod kind;
-mod lexeme;
-pub mod measured;
-mod numeral;
-pub mod operand;
+pub mod names;
 pub mod program;
 pub mod sections;
+pub mod skipped;
+pub mod types;
 
-pub use answer::read_expr;
 pub use program::{Reading, read_program};
+pub use smv_expr::read_expr;
 
 #[cfg(test)]
 mod tests;

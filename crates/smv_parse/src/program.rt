@@ -1,93 +1,131 @@
-//! Whole models, and the fault of a text that is none.
+//! Whole models.
 
-ghost use Rattle.std.specs.Prelude.{◌≡◌, ◌+◌, ◌<◌, ◌^◌, [], ◌∷◌, length, IfOk};
-ghost use Rattle.smv_parse.specs.Grammar.{one_module};
-ghost use Rattle.smv_parse.specs.Answer.{Answers, Ends, stand};
+ghost use Rattle.std.specs.Prelude.{◌≡◌, ◌<◌, ◌^◌, length, IfOk, OnOk};
+ghost use Rattle.smv_ast.specs.declared.program.Program.{Program};
+ghost use Rattle.smv_ast.specs.PrintedProgram.{printed_program};
+ghost use Rattle.smv_expr.specs.Reading.{Gives};
+ghost use Rattle.smv_parse.specs.Grammar.{alone, with_module};
+ghost use Rattle.smv_parse.specs.Readers as spec;
+ghost use Rattle.smv_parse.specs.Readers.{the_limit};
+ghost use Rattle.smv_parse.specs.Answer.{ProgramAnswer};
+ghost use Rattle.smv_parse.specs.ReadingBack.{PrintableProgram, ReadsBackProgram};
 
-use crate::cursor::Cursor;
-use crate::error::ReadError;
-use crate::sections::module;
-use smv_ast::{Fault, List, Module, NoMemory, Program, Skipped, Span};
+use crate::names::some_formals;
+use crate::sections::{Parts, all_parts};
+use smv_ast::{Fault, List, Module, NoMemory, Program, Skipped};
+use smv_expr::answer::answer;
+use smv_expr::cursor::Cursor;
+use smv_expr::error::ReadError;
+use smv_expr::kind::Kind;
 use std::alloc::Global;
 
-/// A model, and the sections that were passed over.
+/// A model, and the sections that were passed over, in the order of the text.
 #[derive(Drop)]
 pub struct Reading {
     pub program: Program,
     pub skipped: List<Skipped>,
 }
 
-/// The module, and that the tokens end behind it.
-fn whole(alloc: Global, tokens: &mut Cursor<'_>) -> Result<Module, ReadError>
-    ensures { Ends one_module tokens.old result tokens.new }
-{
-    match module(alloc, tokens) {
-        Ok(found) => {
-            if tokens.is_at_end() {
-                Ok(found)
-            } else {
-                Err(ReadError::Unexpected)
-            }
-        }
-        Err(error) => Err(error),
+/// A module, and the sections of it that were passed over.
+#[derive(Drop)]
+pub struct ModuleReading {
+    pub module: Module,
+    pub skipped: List<Skipped>,
+}
+
+impl Reading {
+    /// The model that is this module alone.
+    fn alone(alloc: Global, first: ModuleReading) -> Result<Reading, NoMemory>
+        ensures { IfOk result (λ r. r ≡ alone first) }
+    {
+        let mut modules = List::new(alloc);
+        modules.push(first.module)?;
+        Ok(Reading {
+            program: Program { modules },
+            skipped: first.skipped,
+        })
+    }
+
+    /// Adds a module behind the others.
+    fn push(&mut self, next: ModuleReading) -> Result<(), NoMemory>
+        ensures { OnOk result (self.new ≡ with_module self.old next) }
+    {
+        self.program.modules.push(next.module)?;
+        self.skipped.append(next.skipped)?;
+        Ok(())
     }
 }
 
-/// Where the next token of the file stands, or the file ends.
-pub fn stand(tokens: &Cursor<'_>, file: u32, bytes: &[u8]) -> Span
-    requires { length bytes.now < 2 ^ 32 }
-    ensures { result ≡ stand file bytes.now tokens.now }
+/// A module with its sections.
+#[tactic(auto, unfolding(crate::specs::Readers::read_module))]
+pub fn module(alloc: Global, tokens: &mut Cursor<'_>) -> Result<ModuleReading, ReadError>
+    ensures { Gives (spec.read_module the_limit tokens.old) result tokens.new }
 {
-    match tokens.place() {
-        Some(at) => at,
-        None => Span {
-            file,
-            at: bytes.len() as u32,
+    let at = tokens.expect(Kind::Module)?;
+    let (name, _) = tokens.name(alloc)?;
+    let formals = some_formals(alloc, tokens)?;
+    let Parts { sections, skipped } = all_parts(alloc, tokens)?;
+    Ok(ModuleReading {
+        module: Module {
+            name,
+            formals,
+            sections,
+            at,
         },
-    }
+        skipped,
+    })
 }
 
-fn misfit(tokens: &Cursor<'_>, file: u32, bytes: &[u8]) -> Fault
-    requires { length bytes.now < 2 ^ 32 }
-    ensures { result ≡ Fault.Syntax (Some (stand file bytes.now tokens.now)) }
+/// A model of the module that comes.
+#[tactic(auto, unfolding(crate::specs::Readers::read_first_module))]
+fn first_module(alloc: Global, tokens: &mut Cursor<'_>) -> Result<Reading, ReadError>
+    ensures { Gives (spec.read_first_module the_limit tokens.old) result tokens.new }
 {
-    Fault::Syntax {
-        at: Some(stand(tokens, file, bytes)),
-    }
+    let first = module(alloc, tokens)?;
+    Ok(Reading::alone(alloc, first)?)
 }
 
-fn alone(alloc: Global, main: Module) -> Result<Program, NoMemory>
-    ensures { IfOk result (λ p. p ≡ record { modules = main ∷ [] }) }
+/// The modules that come, behind those that are there.
+fn more_modules(
+    alloc: Global,
+    tokens: &mut Cursor<'_>,
+    first: Reading,
+) -> Result<Reading, ReadError>
+    ensures { Gives (spec.read_more_modules the_limit first tokens.old) result tokens.new }
 {
-    let mut modules = List::new(alloc);
-    modules.push(main)?;
-    Ok(Program { modules })
+    let mut found = first;
+    'turns: while tokens.sees(Kind::Module) {
+        let one = module(alloc, tokens)?;
+        found.push(one)?;
+    }
+    Ok(found)
 }
 
-/// The model that the bytes of a file are.
+/// A model: one module or more.
+#[tactic(auto, unfolding(crate::specs::Readers::read_program))]
+fn program(alloc: Global, tokens: &mut Cursor<'_>) -> Result<Reading, ReadError>
+    ensures { Gives (spec.read_program the_limit tokens.old) result tokens.new }
+{
+    let first = first_module(alloc, tokens)?;
+    more_modules(alloc, tokens, first)
+}
+
+/// The model that the bytes of a file are, and its sections that are passed over.
 ///
-/// A text that is no model is refused as Syntax, at the first token with which, after the tokens before it, no
-/// text of the grammar begins. The end of the file counts as such a token. Where the text is a module of another
-/// name than `main`, the place is that of the module.
+/// Else the fault at the first token with which, after the tokens before it, no text of the grammar begins; the end of
+/// the file counts as such a token. It is LeftOut where the token is a word or a mark of SMV that is left out here, and
+/// Syntax elsewhere. WideNumber comes at a numeral over 2,147,483,647 that could stand there. TooNested comes at the
+/// first token before which more than 1,000 constructs of an expression are open, or with which an expression ends whose
+/// tree is higher than 1,000. The fault of the first of these tokens is answered.
+///
+/// Where the bytes are the canonical text of a printable model, the same model is answered, places left aside, or
+/// TooNested or NoMemory.
 pub fn read_program(alloc: Global, file: u32, bytes: &[u8]) -> Result<Reading, Fault>
     requires { length bytes.now < 2 ^ 32 }
-    ensures { Answers file bytes.now result }
+    ensures answer { ProgramAnswer file bytes.now result }
+    ensures back { (p : Program) → PrintableProgram p → bytes.now ≡ printed_program p → ReadsBackProgram file bytes.now p result }
 {
     let mut tokens = Cursor::new(file, bytes);
-    match whole(alloc, &mut tokens) {
-        Err(ReadError::NoMemory) => Err(Fault::NoMemory),
-        // Nothing that is read here nests.
-        Err(ReadError::TooNested) => Err(Fault::NoMemory),
-        Err(ReadError::Unexpected) => Err(misfit(&tokens, file, bytes)),
-        Err(ReadError::WideNumber) => Err(misfit(&tokens, file, bytes)),
-        Ok(found) => {
-            if !found.name.is("main") {
-                return Err(Fault::Syntax { at: Some(found.at) });
-            }
-            Ok(Reading {
-                program: alone(alloc, found)?,
-                skipped: List::new(alloc),
-            })
-        }
-    }
+    let found = program(alloc, &mut tokens);
+    answer(alloc, found, &tokens, file, bytes)
 }

@@ -1,15 +1,5 @@
-use crate::answer::read_expr;
-use crate::cursor::Cursor;
-use crate::expression::{atom, right, simple};
-use crate::kind::Kind;
-use crate::operand::{negative_interval, number, path, sign, single, up_to};
-use crate::program::stand;
-use crate::sections::{left_side, module, smv_type};
 use crate::{Reading, read_program};
-use smv_ast::{
-    Choice, Expr, Fault, Left, List, Module, Op, Program, Section, SmvType, Span, Text,
-    print_program,
-};
+use smv_ast::{Fault, print_program};
 use std::alloc::Global;
 use std::test::Fail;
 
@@ -24,339 +14,113 @@ fn misfit(alloc: Global, text: &str) -> Option<u32> {
     }
 }
 
-#[test]
-fn offsets(rt: HostRuntime) -> Result<(), Fail> {
-    let texts = [
-        ("", 0),
-        ("MODULE", 6),
-        ("MODULE é", 7),
-        ("MODULE other", 0),
-        ("MODULE main VAR x 0..3;", 18),
-        ("MODULE main VAR x : 0..2147483648;", 23),
-        ("MODULE main VAR case : boolean;", 16),
-        ("MODULE main VAR x : boolean; @", 29),
-        ("MODULE main INVARSPEC x +", 25),
-        ("MODULE main INVARSPEC a & b | c", 28),
-        ("MODULE main ASSIGN next(x) := case TRUE : 1; esac", 49),
-        ("MODULE main ASSIGN x := 1;", 19),
-        ("MODULE main MODULE main", 12),
-    ];
-    for (text, offset) in texts {
-        assert_eq!(rt; misfit(rt.alloc(), text), Some(offset), "{text}");
-    }
-    Ok(())
-}
-
-#[test]
-fn accepted(rt: HostRuntime) -> Result<(), Fail> {
-    let texts = [
-        "MODULE main",
-        "MODULE main VAR ASSIGN VAR",
-        "MODULE main -- é (\r ASSIGN ?",
-        "-- first\nMODULE\tmain VAR x:0..123456789;\n-- last\nINVARSPEC x!=y$#_1 INVARSPEC TRUE;",
-    ];
-    for text in texts {
-        let length = text.len();
-        assert!(rt; length < 1000);
-        let read = read_program(rt.alloc(), 0, text.as_bytes());
-        assert!(rt; read.is_ok(), "{text}");
-    }
-    Ok(())
-}
-
-#[test]
-fn counter(rt: HostRuntime) -> Result<(), Fail> {
-    let text =
-        b"MODULE main VAR x : 0..3; ASSIGN init(x) := 0; next(x) := case x < 2 : x + 1; TRUE : x; esac; INVARSPEC x <= 2;";
-    let Ok(Reading { program, skipped }) = read_program(rt.alloc(), 3, text) else {
-        panic!(rt; "refused");
-    };
-    assert!(rt; skipped.is_empty());
-    let [module] = program.modules.as_slice() else {
-        panic!(rt; "one module");
-    };
-    assert!(rt; module.name.is("main"));
-    assert_eq!(rt; (module.at.file, module.at.at), (3, 0));
-    let [
-        Section::Vars(vars),
-        Section::Assigns(assigns),
-        Section::InvarSpec(Expr::Binary(Op::Le, _, _), spec),
-    ] = module.sections.as_slice()
-    else {
-        panic!(rt; "three sections");
-    };
-    assert_eq!(rt; spec.at, 94);
-    let [variable] = vars.as_slice() else {
-        panic!(rt; "one variable");
-    };
-    assert!(rt; variable.name.is("x"));
-    assert_eq!(rt; variable.at.at, 16);
-    let [first, next] = assigns.as_slice() else {
-        panic!(rt; "two assignments");
-    };
-    assert_eq!(rt; (first.left, first.at.at), (Left::Init, 33));
-    assert_eq!(rt; (next.left, next.at.at), (Left::Next, 47));
-    assert!(rt; matches!(&first.right, Expr::Number(0)));
-    let Expr::Cases(branches) = &next.right else {
-        panic!(rt; "cases");
-    };
-    assert_eq!(rt; branches.len(), 2);
-    Ok(())
-}
-
-#[test]
-fn cursor(rt: HostRuntime) -> Result<(), Fail> {
-    let text = b" x 12 + * MODULE";
-    let mut tokens = Cursor::new(1, text);
-    assert!(rt; tokens.sees(Kind::Name));
-    assert_eq!(rt; tokens.kind(), Some(Kind::Name));
-    let Ok((name, at)) = tokens.name(rt.alloc()) else {
-        panic!(rt; "a name");
-    };
-    assert!(rt; name.is("x"));
-    assert_eq!(rt; at.at, 1);
-    let Ok((twelve, _)) = tokens.numeral() else {
-        panic!(rt; "a numeral");
-    };
-    assert_eq!(rt; twelve, 12);
-    assert_eq!(rt;
-        tokens.eat_one_of(&[(Kind::Minus, 1u8), (Kind::Plus, 2)]),
-        Some(2)
-    );
-    assert!(rt; tokens.eat(Kind::Plus).is_none());
-    assert!(rt; tokens.eat(Kind::Star).is_some());
-    assert_eq!(rt; stand(&tokens, 1, text).at, 10);
-    let Ok(word) = tokens.expect(Kind::Module) else {
-        panic!(rt; "a word");
-    };
-    assert_eq!(rt; word.at, 10);
-    assert!(rt; tokens.is_at_end());
-    assert!(rt; tokens.place().is_none());
-    Ok(())
-}
-
-#[test]
-fn parts(rt: HostRuntime) -> Result<(), Fail> {
-    let alloc = rt.alloc();
-    let mut tokens = Cursor::new(0, b"7 a = b case a : 1; esac init(a) 2..5 MODULE m");
-    assert!(rt; matches!(atom(alloc, &mut tokens), Ok(Expr::Number(7))));
-    assert!(rt; matches!(simple(alloc, &mut tokens), Ok(Expr::Binary(Op::Eq, _, _))));
-    assert!(rt; matches!(right(alloc, &mut tokens), Ok(Expr::Cases(_))));
-    let Ok(side) = left_side(alloc, &mut tokens) else {
-        panic!(rt; "a left side");
-    };
-    assert!(rt; side.name.is("a"));
-    assert_eq!(rt; (side.left, side.at.at), (Left::Init, 25));
-    assert!(rt;
-        matches!(
-            smv_type(&mut tokens),
-            Ok(SmvType::Range { low: 2, high: 5 })
-        )
-    );
-    let Ok(empty) = module(alloc, &mut tokens) else {
-        panic!(rt; "a module");
-    };
-    assert!(rt; empty.name.is("m"));
-    assert!(rt; tokens.is_at_end());
-    Ok(())
-}
-
-#[test]
-fn operands(rt: HostRuntime) -> Result<(), Fail> {
-    let alloc = rt.alloc();
-    let mut tokens = Cursor::new(2, b"- 12 .. -3 4 5..6 7 8..9 cabin . r1.at");
-    assert!(rt; matches!(sign(&mut tokens, true), Ok(-12)));
-    assert!(rt; matches!(up_to(&mut tokens, true), Ok(-3)));
-    let Ok(four) = number(alloc, &mut tokens, true) else {
-        panic!(rt; "a number");
-    };
-    assert!(rt; matches!(four.into_expr(), Expr::Number(4)));
-    let Ok(five_to_six) = number(alloc, &mut tokens, true) else {
-        panic!(rt; "an interval");
-    };
-    assert!(rt;
-        matches!(
-            five_to_six.into_expr(),
-            Expr::Pick(Choice::Between { low: 5, high: 6 })
-        )
-    );
-    let Ok(seven) = single(alloc, &mut tokens, true) else {
-        panic!(rt; "a number");
-    };
-    assert!(rt; matches!(seven.into_expr(), Expr::Number(7)));
-    let Ok(to_nine) = negative_interval(alloc, &mut tokens, true) else {
-        panic!(rt; "an interval below zero");
-    };
-    assert!(rt;
-        matches!(
-            to_nine.into_expr(),
-            Expr::Pick(Choice::Between { low: -8, high: 9 })
-        )
-    );
-    let Ok(names) = path(alloc, &mut tokens, true) else {
-        panic!(rt; "a path");
-    };
-    let Expr::Name(path) = names.into_expr() else {
-        panic!(rt; "names");
-    };
-    assert_eq!(rt; (path.at.file, path.at.at), (2, 25));
-    let [cabin, r1, at] = path.names.as_slice() else {
-        panic!(rt; "three names");
-    };
-    assert!(rt; cabin.is("cabin") && r1.is("r1") && at.is("at"));
-    assert!(rt; tokens.is_at_end());
-    Ok(())
-}
-
-/// The canonical text of a model whose one section asks for the expression of the text at the start.
-fn printed(alloc: Global, text: &str) -> Result<String, Fail> {
-    if text.len() > 1000 {
-        return Err("too long")?;
-    }
-    let Ok(expr) = read_expr(alloc, 0, text.as_bytes()) else {
-        return Err("refused")?;
-    };
-    let at = Span { file: 0, at: 0 };
-    let mut sections = List::new(alloc);
-    sections.push(Section::Init(expr, at))?;
-    let mut modules = List::new(alloc);
-    modules.push(Module {
-        name: Text::from_str(alloc, "m")?,
-        formals: List::new(alloc),
-        sections,
-        at,
-    })?;
-    Ok(print_program(alloc, &Program { modules })?)
-}
-
-#[test]
-fn precedence(rt: HostRuntime) -> Result<(), Fail> {
-    let texts = [
-        ("a+b*c", "a + (b * c)"),
-        ("a - b - c", "(a - b) - c"),
-        ("a mod b * c", "(a mod b) * c"),
-        ("a -> b -> c", "a -> (b -> c)"),
-        ("a <-> b <-> c | d", "(a <-> b) <-> (c | d)"),
-        ("a & b | c xor d & e", "((a & b) | c) xor (d & e)"),
-        ("!a = b & c", "(!(a = b)) & c"),
-        ("x = !y = z", "x = (!(y = z))"),
-        ("-x * -3", "(-x) * (-3)"),
-        ("- 3 .. 4", "-3..4"),
-        ("x - 1..2", "x - (1..2)"),
-        (
-            "x + 1 in {y,0..2} in -1..1",
-            "((x + 1) in {y, 0..2}) in -1..1",
-        ),
-        (
-            "case a < b : 1; TRUE : next((c)) ; esac",
-            "case a < b : 1; TRUE : next(c); esac",
-        ),
-        ("((cabin . r1.x)) -- the path", "cabin.r1.x"),
-        ("0002147483647 >= 1", "2147483647 >= 1"),
-    ];
-    for (text, canonical) in texts {
-        let model = printed(rt.alloc(), text)?;
-        let wanted = format!(in rt.alloc(); "MODULE m\nINIT {canonical};\n")?;
-        assert_eq!(rt; model.as_str(), wanted.as_str());
-    }
-    Ok(())
-}
-
-/// Where the text is refused as Syntax, if it is.
-fn syntax_at(alloc: Global, text: &str) -> Option<u32> {
-    if text.len() > 10_000 {
-        return None;
-    }
-    match read_expr(alloc, 0, text.as_bytes()) {
-        Err(Fault::Syntax { at: Some(at) }) => Some(at.at),
-        _ => None,
-    }
-}
-
 /// Where the text holds a word or a mark that is left out, if it is refused so.
-fn left_out_at(alloc: Global, text: &str) -> Option<u32> {
-    if text.len() > 10_000 {
+fn left_out(alloc: Global, text: &str) -> Option<u32> {
+    if text.len() > 1000 {
         return None;
     }
-    match read_expr(alloc, 0, text.as_bytes()) {
+    match read_program(alloc, 7, text.as_bytes()) {
         Err(Fault::LeftOut { at: Some(at), .. }) => Some(at.at),
         _ => None,
     }
 }
 
 /// Where the text holds a number over the limit, if it is refused so.
-fn wide_at(alloc: Global, text: &str) -> Option<u32> {
-    if text.len() > 10_000 {
+fn wide(alloc: Global, text: &str) -> Option<u32> {
+    if text.len() > 1000 {
         return None;
     }
-    match read_expr(alloc, 0, text.as_bytes()) {
+    match read_program(alloc, 7, text.as_bytes()) {
         Err(Fault::WideNumber { at: Some(at) }) => Some(at.at),
         _ => None,
     }
 }
 
-/// Where the text nests too deep, if it is refused so.
-fn too_nested_at(alloc: Global, text: &str) -> Option<u32> {
-    if text.len() > 10_000 {
-        return None;
-    }
-    match read_expr(alloc, 0, text.as_bytes()) {
-        Err(Fault::TooNested { at: Some(at) }) => Some(at.at),
-        _ => None,
-    }
-}
-
 #[test]
-fn misfits_of_expressions(rt: HostRuntime) -> Result<(), Fail> {
+fn offsets(rt: HostRuntime) -> Result<(), Fail> {
     let texts = [
         ("", 0),
-        ("a b", 2),
-        ("-!b", 1),
-        ("x in 0..2 + 1", 10),
-        ("x + !y in {1} + 2", 14),
-        ("case esac", 5),
-        ("case a : b; ", 12),
-        ("1..", 3),
-        ("a..b", 1),
-        ("a 2147483648", 2),
+        ("MODULE", 6),
+        ("MODULE é", 7),
+        ("MODULE main VAR x 0..3;", 18),
+        ("MODULE main VAR case : boolean;", 16),
+        ("MODULE main VAR x : {1, a};", 24),
+        ("MODULE main VAR x : boolean; @", 29),
+        ("MODULE main INVARSPEC x +", 25),
+        ("MODULE main DEFINE d = 1;", 21),
+        ("MODULE m(a,) VAR", 11),
+        ("MODULE main VAR x : m(;", 22),
+        ("MODULE main ASSIGN next(x) := case TRUE : 1; esac", 49),
+        ("MODULE main SPEC ) @ END", 21),
+        ("MODULE main SPEC CHANGE", 17),
     ];
     for (text, offset) in texts {
-        assert_eq!(rt; syntax_at(rt.alloc(), text), Some(offset), "{text}");
+        assert_eq!(rt; misfit(rt.alloc(), text), Some(offset), "{text}");
     }
-    assert_eq!(rt; left_out_at(rt.alloc(), "array"), Some(0));
-    assert_eq!(rt; left_out_at(rt.alloc(), "a [ 1 ]"), Some(2));
-    assert_eq!(rt; wide_at(rt.alloc(), "a + 2147483648 b"), Some(4));
-    assert_eq!(rt; wide_at(rt.alloc(), "x in 1..99999999999"), Some(8));
+    let array = "MODULE main VAR x : array 0..1 of boolean;";
+    assert_eq!(rt; left_out(rt.alloc(), array), Some(20));
+    assert_eq!(rt;
+        wide(rt.alloc(), "MODULE main INIT 2147483648 = 0"),
+        Some(17)
+    );
+    assert_eq!(rt;
+        wide(rt.alloc(), "MODULE main VAR x : 0..2147483648;"),
+        Some(23)
+    );
     Ok(())
 }
 
-/// The first text so many times, then the second once.
-fn repeated(alloc: Global, before: &str, times: usize, behind: &str) -> Result<String, Fail> {
-    let mut text = String::new(alloc);
-    for _ in 0..times {
-        text.push_str(before)?;
+/// The text in its canonical form, if it is a model.
+fn printed(alloc: Global, text: &str) -> Result<String, Fail> {
+    if text.len() > 1000 {
+        return Err("too long")?;
     }
-    text.push_str(behind)?;
-    Ok(text)
+    match read_program(alloc, 0, text.as_bytes()) {
+        Ok(reading) => Ok(print_program(alloc, &reading.program)?),
+        Err(_) => Err("refused")?,
+    }
 }
 
 #[test]
-fn nesting(rt: HostRuntime) -> Result<(), Fail> {
+fn models(rt: HostRuntime) -> Result<(), Fail> {
     let texts = [
-        ("!", 1000, "a", 1000),
-        ("- ", 1000, "1", 2000),
-        ("a+", 1000, "a", 2000),
-        ("a->", 1000, "a", 3000),
+        ("MODULE main", "MODULE main\n"),
+        ("MODULE main -- é (\r ASSIGN ?", "MODULE main\n"),
+        (
+            "MODULE main VAR ASSIGN DEFINE",
+            "MODULE main\nVAR\nASSIGN\nDEFINE\n",
+        ),
+        (
+            "MODULE m(a, b) VAR x:{-1,2}; y:{up,dn}; c:n; d:n(x,y+1); MODULE n()",
+            "MODULE m(a, b)\nVAR\n  x : {-1, 2};\n  y : {up, dn};\n  c : n;\n  d : n(x, y + 1);\nMODULE n\n",
+        ),
+        (
+            "MODULE m INIT x INVAR y; TRANS z INVARSPEC w; SPEC AG (a -> EF $1) INIT v",
+            "MODULE m\nINIT x;\nINVAR y;\nTRANS z;\nINVARSPEC w;\nINIT v;\n",
+        ),
+        (
+            "MODULE m ASSIGN x := 1; init(x) := 2; next(x) := 3; DEFINE d := {1, 2};",
+            "MODULE m\nASSIGN\n  x := 1;\n  init(x) := 2;\n  next(x) := 3;\nDEFINE\n  d := {1, 2};\n",
+        ),
     ];
-    for (before, times, behind, offset) in texts {
-        let text = repeated(rt.alloc(), before, times, behind)?;
-        assert_eq!(rt;
-            too_nested_at(rt.alloc(), text.as_str()),
-            Some(offset),
-            "{before}"
-        );
-        let less = repeated(rt.alloc(), before, 999, behind)?;
-        assert_eq!(rt; too_nested_at(rt.alloc(), less.as_str()), None, "{before}");
+    for (text, canonical) in texts {
+        let model = printed(rt.alloc(), text)?;
+        assert_eq!(rt; model.as_str(), canonical, "{text}");
     }
+    Ok(())
+}
+
+#[test]
+fn skipped(rt: HostRuntime) -> Result<(), Fail> {
+    let text = b"MODULE m LTLSPEC G ?\xe9 COMPASSION VAR x : boolean; MODULE n SPEC xEND 1";
+    let Ok(Reading { skipped, .. }) = read_program(rt.alloc(), 3, text) else {
+        panic!(rt; "refused");
+    };
+    let [first, second, third] = skipped.as_slice() else {
+        panic!(rt; "three sections");
+    };
+    assert!(rt; first.word.is("LTLSPEC") && second.word.is("COMPASSION") && third.word.is("SPEC"));
+    assert_eq!(rt; (first.at.file, first.at.at), (3, 9));
+    assert_eq!(rt; (second.at.at, third.at.at), (22, 59));
     Ok(())
 }

@@ -1,56 +1,52 @@
 //! Applying the changes of a feature, one after another.
 
-ghost use Rattle.std.specs.Prelude.{◌≡◌, ◌∷◌, List, IfOk, codes, reverse};
-ghost use Rattle.std.specs.Str.{bytes_eq};
-ghost use Rattle.fsmv_top.specs.UsedNames.{variables, is_among, in_set};
+ghost use Rattle.std.specs.Prelude.{◌≡◌, List, IfOk, reverse};
 ghost use Rattle.fsmv_top.specs.Weaving as spec;
 
-use crate::integration::impose::{Imposed, impose};
-use crate::integration::names::{MissingName, first_missing, variables};
-use smv_ast::{Action, Change, Feature, List, Module, NoMemory, Program, Section};
+use crate::integration::impose::{Imposed, impose, impose_fault};
+use crate::integration::names::{MissingName, first_missing};
+use smv_ast::{Action, Change, Fault, List, NoMemory, Product, Program, Span, Text};
 use std::alloc::Global;
-use std::collections::HashSet;
 
-/// The sections of the module `main`, or none.
-fn main_sections(program: &Program) -> &[Section]
-    ensures { result.now ≡ spec.main_sections program.now }
+fn missing_fault(alloc: Global, feature: &Text, missing: MissingName) -> Result<Fault, NoMemory>
+    ensures { IfOk result (λ f. f ≡ spec.missing_fault feature.now missing) }
 {
-    for module in program.modules.as_slice() {
-        if module.name.as_str() == "main" {
-            return module.sections.as_slice();
-        }
-    }
-    &[]
+    Ok(Fault::RequireMissing {
+        at: Some(missing.at),
+        feature: feature.try_clone(alloc)?,
+        name: missing.name,
+        product: Product { bits: 0 },
+    })
 }
 
-fn missing_in_changes(
+fn action_fault(
     alloc: Global,
-    known: &HashSet<&str>,
-    changes: &[Change],
-) -> Result<Option<MissingName>, NoMemory>
-    ensures { IfOk result (λ found. found ≡ spec.missing_in_changes (in_set known.now) changes.now) }
+    program: &Program,
+    module: &Text,
+    at: Span,
+    action: &Action,
+) -> Result<Option<Fault>, NoMemory>
+    ensures { IfOk result (λ f. f ≡ spec.action_fault program.now «module».now at action.now) }
 {
-    for change in changes {
-        match first_missing(alloc, known, change)? {
-            Some(missing) => return Ok(Some(missing)),
-            None => {}
-        }
+    match action {
+        Action::Impose { left, name, .. } => impose_fault(alloc, program, module, at, *left, name),
+        Action::Treat { .. } => Ok(None),
     }
-    Ok(None)
 }
 
-/// The first name that the feature uses and that is no variable of `main`.
-///
-/// The only error is want of memory.
-pub fn missing_name(
+/// Why a change of the feature cannot be applied to the model, if it cannot.
+fn change_fault(
     alloc: Global,
-    base: &Program,
-    feature: &Feature,
-) -> Result<Option<MissingName>, NoMemory>
-    ensures { IfOk result (λ found. found ≡ spec.missing_name base.now feature.now) }
+    feature: &Text,
+    program: &Program,
+    change: &Change,
+) -> Result<Option<Fault>, NoMemory>
+    ensures { IfOk result (λ f. f ≡ spec.change_fault feature.now program.now change.now) }
 {
-    let known = variables(alloc, main_sections(base))?;
-    missing_in_changes(alloc, &known, feature.changes.as_slice())
+    match first_missing(alloc, program, change)? {
+        Some(missing) => Ok(Some(missing_fault(alloc, feature, missing)?)),
+        None => action_fault(alloc, program, &change.module, change.at, &change.action),
+    }
 }
 
 fn apply_change(alloc: Global, program: Program, change: Change) -> Result<Program, NoMemory>
@@ -89,21 +85,39 @@ fn reversed(alloc: Global, mut changes: List<Change>) -> Result<List<Change>, No
     Ok(turned)
 }
 
-/// The model with the changes applied, each to the text as it then is. The model is used up.
-///
-/// The only error is want of memory.
+/// The model with the change applied, or why it cannot be.
+fn try_change(
+    alloc: Global,
+    feature: &Text,
+    program: Program,
+    change: Change,
+) -> Result<Program, Fault>
+    ensures { spec.AppliesChange feature.now program change result }
+{
+    match change_fault(alloc, feature, &program, &change)? {
+        Some(fault) => Err(fault),
+        None => Ok(apply_change(alloc, program, change)?),
+    }
+}
+
+/// The model with the changes of the feature applied, each to the text as it then is; or the fault of the first that
+/// cannot be. The model is used up.
 pub fn apply_changes(
     alloc: Global,
+    feature: &Text,
     program: Program,
     changes: List<Change>,
-) -> Result<Program, NoMemory>
-    ensures { IfOk result (λ p. p ≡ spec.apply_changes program changes) }
+) -> Result<Program, Fault>
+    ensures { spec.AppliesChanges feature.now program changes result }
 {
     let mut program = program;
     let mut waiting = reversed(alloc, changes)?;
     for _turn in 0..waiting.len() {
         if let Some(change) = waiting.pop() {
-            program = apply_change(alloc, program, change)?;
+            match try_change(alloc, feature, program, change) {
+                Ok(next) => program = next,
+                Err(fault) => return Err(fault),
+            }
         }
     }
     Ok(program)

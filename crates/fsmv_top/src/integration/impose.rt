@@ -12,8 +12,8 @@ ghost use Rattle.smv_ast.specs.declared.program.Section.TheVariants as section;
 
 use crate::integration::lists::take_at;
 use smv_ast::{
-    Assignment, Boxed, Branch, Choice, Declaration, Declared, Expr, Left, List, Module, NoMemory,
-    Path, Program, Section, SmvType, Span, Text,
+    Assignment, Boxed, Branch, Choice, Declaration, Declared, Expr, Fault, Left, List, Module,
+    NoMemory, Path, Program, Section, SmvType, Span, Text,
 };
 use std::alloc::Global;
 
@@ -412,4 +412,76 @@ pub fn impose(
     modules.push(impose_in(alloc, module, imposed)?)?;
     modules.append(behind)?;
     Ok(Program { modules })
+}
+
+/// The sections of the first module of this name, or none.
+fn sections_named<'a>(name: &Text, program: &'a Program) -> &'a [Section]
+    ensures { result.now ≡ spec.sections_named name.now program.now }
+{
+    for module in program.modules.as_slice() {
+        if same_text(name, &module.name) {
+            return module.sections.as_slice();
+        }
+    }
+    &[]
+}
+
+/// Whether the sections assign the variable its value in every state.
+#[tactic(auto, using(crate::proofs::ListLemmas::is_some_first_place))]
+fn assigns_always(name: &Text, sections: &[Section]) -> bool
+    ensures { result ≡ list_any (spec.assigns Left.Now name.now) sections.now }
+{
+    place_of_section(Left::Now, name, sections).is_some()
+}
+
+/// Whether an IMPOSE of this form fits the assignments that stand.
+fn fits_assignments(left: Left, name: &Text, sections: &[Section]) -> bool
+    ensures { result ≡ spec.fits_assignments left name.now sections.now }
+{
+    match left {
+        Left::Now => assigns_always(name, sections),
+        Left::Init => !assigns_always(name, sections),
+        Left::Next => !assigns_always(name, sections),
+    }
+}
+
+fn fault_in(
+    alloc: Global,
+    sections: &[Section],
+    at: Span,
+    left: Left,
+    name: &Text,
+) -> Result<Option<Fault>, NoMemory>
+    ensures { IfOk result (λ f. f ≡ spec.impose_fault at left name.now sections.now) }
+{
+    if type_of(name, sections).is_none() {
+        return Ok(Some(Fault::ImposeTarget {
+            at: Some(at),
+            name: name.try_clone(alloc)?,
+        }));
+    }
+    if fits_assignments(left, name, sections) {
+        return Ok(None);
+    }
+    Ok(Some(Fault::ImposeKind {
+        at: Some(at),
+        name: name.try_clone(alloc)?,
+    }))
+}
+
+/// Why an IMPOSE at this place cannot be applied to the module of this name.
+///
+/// ImposeTarget where the module declares no variable of the target's name with a type; ImposeKind where the form does
+/// not fit the assignments that stand. The only error is want of memory.
+pub fn impose_fault(
+    alloc: Global,
+    program: &Program,
+    module: &Text,
+    at: Span,
+    left: Left,
+    name: &Text,
+) -> Result<Option<Fault>, NoMemory>
+    ensures { IfOk result (λ f. f ≡ spec.impose_fault at left name.now (spec.sections_named «module».now program.now)) }
+{
+    fault_in(alloc, sections_named(module, program), at, left, name)
 }

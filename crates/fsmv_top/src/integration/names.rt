@@ -1,16 +1,24 @@
-//! The names that a change uses, and those that a module knows.
+//! The names that a change uses, and the first of them that is not known.
 
-ghost use Rattle.std.specs.Prelude.{◌≡◌, ℕ, ◌++◌, ◌∷◌, [], List, IfOk, OnOk, map, codes, None, ◌||◌};
+ghost use Rattle.std.specs.Prelude.{◌≡◌, ◌∷◌, [], IfOk, map};
 ghost use Rattle.std.specs.Option.{option_copied, option_map};
-ghost use Rattle.smv_ast.specs.PrintedExpr.{joined};
+ghost use Rattle.smv_meaning.specs.Mentions.{pointed};
+ghost use Rattle.smv_meaning.specs.Runs.{path_text};
+ghost use Rattle.smv_meaning.specs.Entries.{scope_seen, scopes_of as scopes_of_program};
+ghost use Rattle.smv_meaning.specs.Checking.{IsRight};
+ghost use Rattle.smv_names.specs.Unknown as unknown;
 ghost use Rattle.fsmv_top.specs.UsedNames as spec;
 
-use smv_ast::{
-    Action, Branch, Change, Choice, Declaration, Expr, List, NoMemory, Path, Section, Span, Text,
-    print_joined,
-};
-use std::alloc::{AllocError, Global};
-use std::collections::HashSet;
+use smv_ast::{Action, Change, Expr, NoMemory, Path, Program, Span, Text, print_joined};
+use smv_meaning::mentions::push_paths;
+use smv_meaning::order::order_of;
+use smv_meaning::scope::{Scope, modules_by_name, scopes_of};
+use smv_meaning::standing::standing_of;
+use smv_meaning::tree::{Tree, tree_of};
+use smv_names::known::{Knowledge, declared_in, is_known};
+use smv_names::symbols::symbols_of;
+use smv_names::unknown::Sight;
+use std::alloc::Global;
 
 /// A name that is used and not known, and its place.
 #[derive(Drop)]
@@ -19,157 +27,91 @@ pub struct MissingName {
     pub at: Span,
 }
 
-fn add_names<'a>(
-    names: &mut HashSet<&'a str>,
-    declarations: &'a [Declaration],
-) -> Result<(), AllocError>
-    ensures { IfOk result (λ _. (name : List ℕ) → spec.in_set names.new name
-        ≡ (spec.in_set names.old name || spec.is_among (map (λ d. d.name) declarations.now) name)) }
-{
-    for declaration in declarations {
-        names.insert(declaration.name.as_str())?;
-    }
-    Ok(())
-}
-
-/// The names of the variables that the sections declare.
-pub fn variables(alloc: Global, sections: &[Section]) -> Result<HashSet<&str>, NoMemory>
-    ensures { IfOk result (λ names. (name : List ℕ) → spec.in_set names name
-        ≡ spec.is_among (spec.variables sections.now) name) }
-{
-    let mut names = HashSet::new(alloc);
-    for section in sections {
-        if let Section::Vars(declarations) = section {
-            add_names(&mut names, declarations.as_slice())?;
-        }
-    }
-    Ok(names)
-}
-
-fn is_known(known: &HashSet<&str>, path: &Path) -> bool
-    ensures { result ≡ spec.is_known (spec.in_set known.now) path.now.names }
-{
-    match path.names.as_slice() {
-        [name] => known.contains(name.as_str()),
-        _ => false,
-    }
-}
-
-#[cycle(paths)]
-fn push_choice_paths<'a>(paths: &mut Vec<&'a Path>, choice: &'a Choice) -> Result<(), AllocError>
-    ensures { OnOk result (spec.pointed paths.new.items
-        ≡ spec.pointed paths.old.items ++ spec.choice_paths choice.now) }
-{
-    match choice {
-        Choice::Each(parts) => push_list_paths(paths, parts.as_slice()),
-        Choice::Between { .. } => Ok(()),
-    }
-}
-
-#[cycle(paths)]
-fn push_list_paths<'a>(paths: &mut Vec<&'a Path>, parts: &'a [Expr]) -> Result<(), AllocError>
-    ensures { OnOk result (spec.pointed paths.new.items
-        ≡ spec.pointed paths.old.items ++ spec.all_of (map spec.paths_of parts.now)) }
-{
-    for part in parts {
-        push_paths(paths, part)?;
-    }
-    Ok(())
-}
-
-#[cycle(paths)]
-fn push_branch_paths<'a>(
-    paths: &mut Vec<&'a Path>,
-    branches: &'a [Branch],
-) -> Result<(), AllocError>
-    ensures { OnOk result (spec.pointed paths.new.items
-        ≡ spec.pointed paths.old.items ++ spec.all_of (map spec.branch_paths branches.now)) }
-{
-    for branch in branches {
-        push_paths(paths, &branch.cond)?;
-        push_paths(paths, &branch.value)?;
-    }
-    Ok(())
-}
-
-#[tactic(auto, using(crate::proofs::NamesLemmas::pointed_push))]
-fn push_path<'a>(paths: &mut Vec<&'a Path>, path: &'a Path) -> Result<(), AllocError>
-    ensures { OnOk result (spec.pointed paths.new.items ≡ spec.pointed paths.old.items ++ path.now ∷ []) }
-{
-    paths.push(path)?;
-    Ok(())
-}
-
-/// Adds the paths of the expression, in the order of the text.
-#[cycle(paths)]
-fn push_paths<'a>(paths: &mut Vec<&'a Path>, e: &'a Expr) -> Result<(), AllocError>
-    ensures { OnOk result (spec.pointed paths.new.items ≡ spec.pointed paths.old.items ++ spec.paths_of e.now) }
-{
-    match e {
-        Expr::True | Expr::False | Expr::Number(_) => Ok(()),
-        Expr::Name(path) => push_path(paths, path),
-        Expr::Neg(a) | Expr::Not(a) | Expr::Next(a) => push_paths(paths, a.get()),
-        Expr::Binary(_, a, b) => {
-            push_paths(paths, a.get())?;
-            push_paths(paths, b.get())
-        }
-        Expr::Within(a, choice) => {
-            push_paths(paths, a.get())?;
-            push_choice_paths(paths, choice)
-        }
-        Expr::Cases(branches) => push_branch_paths(paths, branches.as_slice()),
-        Expr::Pick(choice) => push_choice_paths(paths, choice),
-    }
-}
-
-fn first_unknown<'a>(known: &HashSet<&str>, paths: &[&'a Path]) -> Option<&'a Path>
-    ensures { option_copied result ≡ spec.first_unknown (spec.in_set known.now) (spec.pointed paths.now) }
+fn first_unknown<'a>(sight: &Sight, paths: &[&'a Path]) -> Option<&'a Path>
+    requires { unknown.IsSight sight.now }
+    ensures { option_copied result ≡ spec.first_unknown (unknown.seen_program sight.now) sight.now.«module».now (pointed paths.now) }
 {
     for path in paths {
-        if !is_known(known, path) {
+        if !is_known_in(sight, path) {
             return Some(path);
         }
     }
     None
 }
 
-fn path_text(alloc: Global, path: &Path) -> Result<Text, NoMemory>
-    ensures { IfOk result (λ text. text ≡ joined (codes ".") path.now.names) }
+fn is_known_in(sight: &Sight, path: &Path) -> bool
+    requires { unknown.IsSight sight.now }
+    ensures { result ≡ unknown.has_meaning (unknown.seen_program sight.now) sight.now.«module».now path.now.names }
+{
+    is_known(
+        sight.known,
+        sight.declared,
+        sight.module.as_str(),
+        path.names.as_slice(),
+    )
+}
+
+fn text_of_path(alloc: Global, path: &Path) -> Result<Text, NoMemory>
+    ensures { IfOk result (λ text. text ≡ path_text path.now.names) }
 {
     let mut out = String::new(alloc);
     print_joined(&mut out, ".", path.names.as_slice())?;
     Text::from_str(alloc, out.as_str())
 }
 
-fn missing_in(
-    alloc: Global,
-    known: &HashSet<&str>,
-    e: &Expr,
-) -> Result<Option<MissingName>, NoMemory>
-    ensures { IfOk result (λ found. found
-        ≡ option_map spec.missing_path (spec.first_unknown (spec.in_set known.now) (spec.paths_of e.now))) }
+fn missing_path(alloc: Global, path: &Path) -> Result<MissingName, NoMemory>
+    ensures { IfOk result (λ missing. missing ≡ spec.missing_path path.now) }
 {
-    let mut paths = Vec::new(alloc);
-    push_paths(&mut paths, e)?;
-    match first_unknown(known, paths.as_slice()) {
-        Some(path) => Ok(Some(MissingName {
-            name: path_text(alloc, path)?,
-            at: path.at,
-        })),
+    Ok(MissingName {
+        name: text_of_path(alloc, path)?,
+        at: path.at,
+    })
+}
+
+fn missing_of_paths(
+    alloc: Global,
+    sight: &Sight,
+    paths: &[&Path],
+) -> Result<Option<MissingName>, NoMemory>
+    requires { unknown.IsSight sight.now }
+    ensures { IfOk result (λ found. found
+        ≡ option_map spec.missing_path (spec.first_unknown (unknown.seen_program sight.now) sight.now.«module».now (pointed paths.now))) }
+{
+    match first_unknown(sight, paths) {
+        Some(path) => Ok(Some(missing_path(alloc, path)?)),
         None => Ok(None),
     }
 }
 
+/// The first name of an expression that is missing.
+fn missing_expr(alloc: Global, sight: &Sight, e: &Expr) -> Result<Option<MissingName>, NoMemory>
+    requires { unknown.IsSight sight.now }
+    ensures { IfOk result (λ found. found ≡ spec.missing_expr (unknown.seen_program sight.now) sight.now.«module».now e.now) }
+{
+    let mut paths = Vec::new(alloc);
+    push_paths(&mut paths, e)?;
+    missing_of_paths(alloc, sight, paths.as_slice())
+}
+
+/// Whether the module declares the name.
+fn declares(sight: &Sight, name: &Text) -> bool
+    requires { unknown.IsSight sight.now }
+    ensures { result ≡ unknown.declared_in (unknown.seen_program sight.now) sight.now.«module».now name.now }
+{
+    sight.declared.contains(name.as_str())
+}
+
+/// A target that the module does not declare.
 fn missing_target(
     alloc: Global,
-    known: &HashSet<&str>,
+    sight: &Sight,
     name: &Text,
     at: Span,
 ) -> Result<Option<MissingName>, NoMemory>
-    ensures { IfOk result (λ found. found
-        ≡ option_map spec.missing_path (spec.first_unknown (spec.in_set known.now) (spec.target at name.now ∷ []))) }
+    requires { unknown.IsSight sight.now }
+    ensures { IfOk result (λ found. found ≡ spec.missing_target (unknown.seen_program sight.now) sight.now.«module».now at name.now) }
 {
-    if known.contains(name.as_str()) {
+    if declares(sight, name) {
         return Ok(None);
     }
     Ok(Some(MissingName {
@@ -178,46 +120,117 @@ fn missing_target(
     }))
 }
 
-#[tactic(auto, using(crate::proofs::NamesLemmas::missing_append))]
-fn missing_in_action(
+/// A target path that is missing.
+fn missing_treated(
     alloc: Global,
-    known: &HashSet<&str>,
+    sight: &Sight,
+    path: &Path,
+) -> Result<Option<MissingName>, NoMemory>
+    requires { unknown.IsSight sight.now }
+    ensures { IfOk result (λ found. found
+        ≡ option_map spec.missing_path (spec.first_unknown (unknown.seen_program sight.now) sight.now.«module».now (path.now ∷ []))) }
+{
+    if is_known_in(sight, path) {
+        return Ok(None);
+    }
+    Ok(Some(missing_path(alloc, path)?))
+}
+
+/// The first name of an action that is missing: its target comes first.
+fn missing_action(
+    alloc: Global,
+    sight: &Sight,
     at: Span,
     action: &Action,
 ) -> Result<Option<MissingName>, NoMemory>
-    ensures { IfOk result (λ found. found
-        ≡ option_map spec.missing_path (spec.first_unknown (spec.in_set known.now) (spec.paths_of_action at action.now))) }
+    requires { unknown.IsSight sight.now }
+    ensures { IfOk result (λ found. found ≡ spec.missing_action (unknown.seen_program sight.now) sight.now.«module».now at action.now) }
 {
     match action {
-        Action::Impose { name, right, .. } => match missing_target(alloc, known, name, at)? {
+        Action::Impose { name, right, .. } => match missing_target(alloc, sight, name, at)? {
             Some(missing) => Ok(Some(missing)),
-            None => missing_in(alloc, known, right),
+            None => missing_expr(alloc, sight, right),
         },
-        Action::Treat { path, right } => {
-            if is_known(known, path) {
-                return missing_in(alloc, known, right);
-            }
-            Ok(Some(MissingName {
-                name: path_text(alloc, path)?,
-                at: path.at,
-            }))
-        }
+        Action::Treat { path, right } => match missing_treated(alloc, sight, path)? {
+            Some(missing) => Ok(Some(missing)),
+            None => missing_expr(alloc, sight, right),
+        },
     }
 }
 
-/// The first name that the change uses and that is not among the known ones.
-///
-/// The only error is want of memory.
-#[tactic(auto, using(crate::proofs::NamesLemmas::missing_append))]
-pub fn first_missing(
+/// The first name of a change that is missing in its module: those of its condition come first.
+fn missing_in_sight(
     alloc: Global,
-    known: &HashSet<&str>,
+    sight: &Sight,
     change: &Change,
 ) -> Result<Option<MissingName>, NoMemory>
-    ensures { IfOk result (λ found. found ≡ spec.first_missing (spec.in_set known.now) change.now) }
+    requires sight { unknown.IsSight sight.now }
+    requires here { sight.now.«module».now ≡ change.now.«module» }
+    ensures { IfOk result (λ found. found ≡ spec.first_missing (unknown.seen_program sight.now) change.now) }
 {
-    match missing_in(alloc, known, &change.cond)? {
+    match missing_expr(alloc, sight, &change.cond)? {
         Some(missing) => Ok(Some(missing)),
-        None => missing_in_action(alloc, known, change.at, &change.action),
+        None => missing_action(alloc, sight, change.at, &change.action),
     }
+}
+
+fn missing_in_tree(
+    alloc: Global,
+    program: &Program,
+    scopes: &[Scope],
+    tree: &Tree,
+    change: &Change,
+) -> Result<Option<MissingName>, NoMemory>
+    requires scopes { map scope_seen scopes.now ≡ scopes_of_program program.now }
+    requires right { IsRight program.now tree.now }
+    ensures { IfOk result (λ found. found ≡ spec.first_missing program.now change.now) }
+{
+    let standing = standing_of(alloc, tree)?;
+    let order = order_of(alloc, program, tree)?;
+    let symbols = symbols_of(alloc, program)?;
+    let numbers = modules_by_name(alloc, scopes)?;
+    let declared = declared_in(alloc, program, scopes, &numbers, change.module.as_str())?;
+    let known = Knowledge {
+        program,
+        tree,
+        standing: standing.as_slice(),
+        order: order.as_slice(),
+        symbols: &symbols,
+    };
+    let sight = Sight {
+        known: &known,
+        module: &change.module,
+        declared: &declared,
+    };
+    missing_in_sight(alloc, &sight, change)
+}
+
+fn missing_in_scopes(
+    alloc: Global,
+    program: &Program,
+    scopes: &[Scope],
+    change: &Change,
+) -> Result<Option<MissingName>, NoMemory>
+    requires { map scope_seen scopes.now ≡ scopes_of_program program.now }
+    ensures { IfOk result (λ found. found ≡ spec.first_missing program.now change.now) }
+{
+    match tree_of(alloc, program, scopes, usize::MAX)? {
+        Some(tree) => missing_in_tree(alloc, program, scopes, &tree, change),
+        // No table in memory has that many instances.
+        None => Err(NoMemory),
+    }
+}
+
+/// The first name that the change uses and that is not known in its module.
+///
+/// The only error is want of memory.
+pub fn first_missing(
+    alloc: Global,
+    program: &Program,
+    change: &Change,
+) -> Result<Option<MissingName>, NoMemory>
+    ensures { IfOk result (λ found. found ≡ spec.first_missing program.now change.now) }
+{
+    let scopes = scopes_of(alloc, program)?;
+    missing_in_scopes(alloc, program, scopes.as_slice(), change)
 }

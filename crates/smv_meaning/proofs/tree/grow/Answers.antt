@@ -8,6 +8,7 @@ use Rattle.smv_meaning.specs.Entries.{seen, meaning_seen, entries_in}
 use Rattle.smv_meaning.specs.Tree.{meant_here}
 use Rattle.smv_meaning.specs.Paths.{IsInstance}
 use Rattle.smv_meaning.proofs.TreeLemmas.{outer_within, deeper_is, meant_alone, meant_instance, slot_right, child_new, rows_more, get_within}
+use Rattle.smv_meaning.proofs.CountLemmas.{inner_none, inner_one}
 use Rattle.smv_meaning.proofs.tree.grow.Goals as goal
 
 pub meant_here-meant-requires : goal.meant_here-meant-requires
@@ -42,3 +43,15 @@ returns-clause-slots c =
     let is = meant_instance c.args.program.now c.args.rows.now c.args.r child link c.args.entry.name.now (meaning_seen c.args.entry.meaning) deeper (get_within c.args.rows.now c.args.r c.args.row c.requires.row)
     (deeper_is c.args.program.now c.args.rows.now c.args.r c.args.row c.len.result c.requires.rows c.requires.row c.len.ensures) refl refl refl (sym (ap option_copied c.in-Some.is) ∙ c.called_by.ensures.called) in
     rw c.in_ok-push-3.ensures.ok (slot, c.in_ok-push-2.ensures.ok, slot_right c.args.program.now (c.args.rows.now ++ child ∷ []) c.args.r (seen c.args.entry) slot _ refl refl (ap IsInstance c.len-2.ensures) is)
+
+pub returns-in_default-clause-inner : goal.returns-in_default-clause-inner
+returns-in_default-clause-inner c =
+    inner_none c.args.program.now c.args.rows.now c.args.r (seen c.args.entry) (nat_lt c.args.row.depth c.len.result)
+    (deeper_is c.args.program.now c.args.rows.now c.args.r c.args.row c.len.result c.requires.rows c.requires.row c.len.ensures) (sym c.called_by.ensures.called ∙ ap option_copied c.in_default.is)
+
+pub returns-clause-inner : goal.returns-clause-inner
+returns-clause-inner c =
+    let link : Link = record { outer = c.args.r; name = c.args.entry.name; called = c.in-Some.called } in
+    let child : Row = record { link = Some link; entries = c.entries_named.result; depth = c.args.row.depth + 1 } in
+    rw c.in_ok-push-3.ensures.ok (inner_one c.args.program.now c.args.rows.now c.args.r (seen c.args.entry) (nat_lt c.args.row.depth c.len.result) child link
+    (deeper_is c.args.program.now c.args.rows.now c.args.r c.args.row c.len.result c.requires.rows c.requires.row c.len.ensures) refl refl refl (sym c.called_by.ensures.called ∙ ap option_copied c.in-Some.is))

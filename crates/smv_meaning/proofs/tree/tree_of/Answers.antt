@@ -4,6 +4,7 @@ use Rattle.smv_meaning.specs.declared.tree.Row.{Row}
 use Rattle.smv_meaning.specs.Entries.{all_seen, entries_in}
 use Rattle.smv_meaning.specs.Tree.{RightSlots, RightUpTo, place_at, places}
 use Rattle.smv_meaning.proofs.TreeLemmas.{main_new, rows_more, place_next, kept_place, get_none, slots_more, extends_length, get_within}
+use Rattle.smv_meaning.proofs.CountLemmas.{weight_main, weight_more, weight_none}
 use Rattle.smv_meaning.proofs.tree.tree_of.Goals as goal
 
 pub loop-r-init : goal.loop-r-init
@@ -16,12 +17,13 @@ loop-r-init c =
       main = rw made (place_next [] row);
       some = rw made (omega arith);
       within = omega arith;
+      weight = weight_main c.args.program.now c.push.new.self (ap places made);
       count = rw c.new-firsts.ensures refl;
       slots = rw c.new-firsts.ensures (λ r first e. cc);
     }
 
-pub returns-in_default : goal.returns-in_default
-returns-in_default c =
+pub returns-in_default-clause-right : goal.returns-in_default-clause-right
+returns-in_default-clause-right c =
     let none : slice_get c.loop-r.rows c.loop-r.r ≡ None = rw c.as_slice.ensures at (sym c.at.ensures ∙ (sym c.copied.ensures ∙ c.in_default.is)) in
     record {
       rows = c.loop-r.invariant.rows;
@@ -30,6 +32,15 @@ returns-in_default c =
       count = omega (arith, get_none c.loop-r.rows c.loop-r.r none);
       slots = c.loop-r.invariant.slots;
     }
+
+pub returns-in_default-clause-count : goal.returns-in_default-clause-count
+returns-in_default-clause-count c =
+    let none : slice_get c.loop-r.rows c.loop-r.r ≡ None = rw c.as_slice.ensures at (sym c.at.ensures ∙ (sym c.copied.ensures ∙ c.in_default.is)) in
+    let all = weight_none c.args.program.now c.loop-r.rows c.loop-r.r (get_none c.loop-r.rows c.loop-r.r none) c.loop-r.invariant.within c.loop-r.invariant.weight in
+    (all, omega (arith, all, get_none c.loop-r.rows c.loop-r.r none))
+
+pub returns-clause-count : goal.returns-clause-count
+returns-clause-count c = omega (arith, c.loop-r.invariant.weight)
 
 pub loop-r-preserved : goal.loop-r-preserved
 loop-r-preserved c =
@@ -43,6 +54,8 @@ loop-r-preserved c =
       main = ap (λ (rows : List Row). place_at (places rows) 0) x.1 ∙ (kept_place c.loop-r.rows x.0 0 c.loop-r.invariant.some ∙ c.loop-r.invariant.main);
       some = omega (arith, extends_length c.loop-r.rows c.expand.new.rows x, c.loop-r.invariant.some);
       within = omega (arith, extends_length c.loop-r.rows c.expand.new.rows x, get_within c.loop-r.rows c.loop-r.r c.in-Some.row at);
+      weight = weight_more c.args.program.now c.loop-r.rows c.expand.new.rows c.loop-r.r (all_seen c.in-Some.row.entries.now) (get_within c.loop-r.rows c.loop-r.r c.in-Some.row at)
+          (c.loop-r.invariant.rows c.loop-r.r c.in-Some.row at).names c.in_ok-expand.ensures.inner c.loop-r.invariant.weight;
       count = omega (arith, ap length pushed, length-append c.loop-r.firsts (length c.loop-r.slots ∷ []), count);
       slots = subst (λ (firsts : List ℕ). RightSlots c.args.program.now c.expand.new.rows firsts c.expand.new.slots) (sym pushed)
           (slots_more c.args.program.now c.loop-r.rows c.expand.new.rows c.loop-r.firsts c.loop-r.slots c.expand.new.slots c.in-Some.row (length c.in-Some.row.entries.now) x c.in_ok-expand.ensures.behind

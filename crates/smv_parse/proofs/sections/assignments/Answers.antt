@@ -1,9 +1,9 @@
 use Rattle.std.proofs.Common.{sym, ◌∙◌, arith, rules}
 use Rattle.std.proofs.lemmas.Grind.{common_steps}
-use Rattle.smv_parse.specs.Reading.{pushed}
-use Rattle.smv_parse.specs.Readers.{side_words, read_assignment, read_assignments}
-use Rattle.smv_parse.proofs.Turns.{one_turn, turns_end}
-use Rattle.smv_parse.proofs.SectionRules.{assignment_consumes}
+use Rattle.smv_expr.specs.Reading.{pushed}
+use Rattle.smv_parse.specs.Readers.{read_assignment, read_assignments, the_limit, first_side}
+use Rattle.smv_expr.proofs.Turns.{one_turn, turns_end}
+use Rattle.smv_parse.proofs.Consuming.{assignment_consumes}
 use Rattle.smv_parse.proofs.sections.assignments.Goals as goal
 
 pub turns-init : goal.turns-init
@@ -12,7 +12,7 @@ turns-init c = search rules
 
 pub returns-in_err-one : goal.returns-in_err-one
 returns-in_err-one c =
-    let turn = c.turns.invariant ∙ one_turn side_words read_assignment pushed assignment_consumes c.turns.found c.turns.tokens (sym c.begins_assignment.ensures ∙ c.turns-test.true) in
+    let turn = c.turns.invariant ∙ one_turn first_side (read_assignment the_limit) pushed assignment_consumes c.turns.found c.turns.tokens (sym c.sees_left_side.ensures ∙ c.turns-test.true) in
     first_of (search rules, grind (arith, common_steps))
 
 pub turns-smaller : goal.turns-smaller
@@ -20,8 +20,8 @@ turns-smaller c = assignment_consumes.less c.turns.tokens c.in_ok-one.one _ c.in
 
 pub turns-preserved : goal.turns-preserved
 turns-preserved c =
-    let turn = c.turns.invariant ∙ one_turn side_words read_assignment pushed assignment_consumes c.turns.found c.turns.tokens (sym c.begins_assignment.ensures ∙ c.turns-test.true) in
+    let turn = c.turns.invariant ∙ one_turn first_side (read_assignment the_limit) pushed assignment_consumes c.turns.found c.turns.tokens (sym c.sees_left_side.ensures ∙ c.turns-test.true) in
     first_of (search rules, grind (arith, common_steps))
 
 pub returns : goal.returns
-returns c = c.turns.invariant ∙ turns_end side_words read_assignment pushed c.turns.found c.turns.tokens (sym c.begins_assignment.ensures ∙ c.turns-test.false)
+returns c = c.turns.invariant ∙ turns_end first_side (read_assignment the_limit) pushed c.turns.found c.turns.tokens (sym c.sees_left_side.ensures ∙ c.turns-test.false)

@@ -1,10 +1,10 @@
 use Rattle.std.proofs.Common.{sym, ◌∙◌, [], ◌∷◌, arith, rules}
 use Rattle.std.proofs.lemmas.Grind.{common_steps}
-use Rattle.smv_parse.specs.declared.kind.Kind.TheVariants as k
-use Rattle.smv_parse.specs.Reading.{pushed}
-use Rattle.smv_parse.specs.Readers.{read_declaration, read_declarations}
-use Rattle.smv_parse.proofs.Turns.{one_turn, turns_end}
-use Rattle.smv_parse.proofs.SectionRules.{declaration_consumes}
+use Rattle.smv_expr.specs.declared.kind.Kind.TheVariants as k
+use Rattle.smv_expr.specs.Reading.{pushed}
+use Rattle.smv_parse.specs.Readers.{read_declaration, read_declarations, the_limit}
+use Rattle.smv_expr.proofs.Turns.{one_turn, turns_end}
+use Rattle.smv_parse.proofs.Consuming.{declaration_consumes}
 use Rattle.smv_parse.proofs.sections.declarations.Goals as goal
 
 pub turns-init : goal.turns-init
@@ -13,7 +13,7 @@ turns-init c = search rules
 
 pub returns-in_err-one : goal.returns-in_err-one
 returns-in_err-one c =
-    let turn = c.turns.invariant ∙ one_turn (k.Name ∷ []) read_declaration pushed declaration_consumes c.turns.found c.turns.tokens (sym c.sees.ensures ∙ c.turns-test.true) in
+    let turn = c.turns.invariant ∙ one_turn (k.Name ∷ []) (read_declaration the_limit) pushed declaration_consumes c.turns.found c.turns.tokens (sym c.sees.ensures ∙ c.turns-test.true) in
     first_of (search rules, grind (arith, common_steps))
 
 pub turns-smaller : goal.turns-smaller
@@ -21,8 +21,8 @@ turns-smaller c = declaration_consumes.less c.turns.tokens c.in_ok-one.one _ c.i
 
 pub turns-preserved : goal.turns-preserved
 turns-preserved c =
-    let turn = c.turns.invariant ∙ one_turn (k.Name ∷ []) read_declaration pushed declaration_consumes c.turns.found c.turns.tokens (sym c.sees.ensures ∙ c.turns-test.true) in
+    let turn = c.turns.invariant ∙ one_turn (k.Name ∷ []) (read_declaration the_limit) pushed declaration_consumes c.turns.found c.turns.tokens (sym c.sees.ensures ∙ c.turns-test.true) in
     first_of (search rules, grind (arith, common_steps))
 
 pub returns : goal.returns
-returns c = c.turns.invariant ∙ turns_end (k.Name ∷ []) read_declaration pushed c.turns.found c.turns.tokens (sym c.sees.ensures ∙ c.turns-test.false)
+returns c = c.turns.invariant ∙ turns_end (k.Name ∷ []) (read_declaration the_limit) pushed c.turns.found c.turns.tokens (sym c.sees.ensures ∙ c.turns-test.false)

@@ -3,4 +3,5 @@ use Rattle.fsmv_top.specs.Weaving as spec
 use Rattle.fsmv_top.proofs.integration.apply.apply_changes.Given as goal
 
 abbrev pub invariant-loop-turn : goal.invariant-loop-turn
-invariant-loop-turn l = (spec.apply_changes l.program (reverse l.waiting) ≡ spec.apply_changes l.fn.program l.fn.changes) × (length l.waiting + l._turn ≡ l._turn-end)
+invariant-loop-turn l = (spec.changes_fault l.feature l.program (reverse l.waiting) ≡ spec.changes_fault l.feature l.fn.program l.fn.changes)
+    × ((spec.apply_changes l.program (reverse l.waiting) ≡ spec.apply_changes l.fn.program l.fn.changes) × (length l.waiting + l._turn ≡ l._turn-end))

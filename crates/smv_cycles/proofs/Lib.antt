@@ -1,0 +1,11 @@
+pub mod NodeLemmas
+pub mod SameLemmas
+pub mod CircleLemmas
+pub mod TextLemmas
+pub mod HeightLemmas
+pub mod OpenLemmas
+pub mod StandingLemmas
+pub mod MovedLemmas
+pub mod ProgramLemmas
+pub mod FaultLemmas
+pub mod MarkLemmas

@@ -1,0 +1,6 @@
+use Rattle.std.proofs.Common.{◌≡◌, ◌++◌, drop}
+use Rattle.smv_cycles.specs.HeldCycles as spec
+use Rattle.smv_cycles.proofs.texts.slot_texts.Given as goal
+
+abbrev pub invariant-loop-k : goal.invariant-loop-k
+invariant-loop-k l = l.members ++ spec.slot_texts l.tree (drop l.k-index l.circle) ≡ spec.slot_texts l.tree l.circle

@@ -1,0 +1,7 @@
+pub mod Nodes
+pub mod Reads
+pub mod ReadsGrow
+pub mod Held
+pub mod Cycles
+pub mod HeldCycles
+pub mod HeldNests

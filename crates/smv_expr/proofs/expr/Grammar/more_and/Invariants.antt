@@ -1,0 +1,15 @@
+use Rattle.std.proofs.Common.{◌≡◌, length}
+use Rattle.smv_expr.specs.Heights.{height}
+use Rattle.smv_expr.specs.Limits.{beside}
+use Rattle.smv_expr.specs.Limits.Limit.{Below}
+use Rattle.smv_expr.specs.Language.{kinds_of}
+use Rattle.smv_expr.specs.ExprGrammar.{and_operators, never_ends, joined}
+use Rattle.smv_expr.specs.Reading.{read_more}
+use Rattle.smv_expr.specs.ExprReaders.{read_expr, read_not, read_signed_expr, read_and_item, read_more_and}
+use Rattle.smv_expr.proofs.expr.Grammar.more_and.Given as goal
+
+abbrev pub invariant-turns : goal.invariant-turns
+invariant-turns g l = read_more_and (read_expr l.self.depth) (read_not l.self.depth) (read_signed_expr l.self.depth) (Below l.bound) l.fn.first l.fn.tokens ≡ read_more (kinds_of and_operators) never_ends (λ b. read_and_item (read_expr l.self.depth) (read_not l.self.depth) (read_signed_expr l.self.depth) (beside (height b) (Below l.bound))) joined l.left l.tokens
+
+abbrev pub decreases-turns : goal.decreases-turns
+decreases-turns g l = length l.tokens

@@ -1,0 +1,12 @@
+pub mod Lexicon
+pub mod Ahead
+pub mod Language
+pub mod Reading
+pub mod ExprGrammar
+pub mod ExprReaders
+pub mod Heights
+pub mod Limits
+pub mod Answer
+pub mod Nests
+pub mod ExprAnswer
+pub mod ReadingBack

@@ -1,0 +1,14 @@
+pub mod IntervalLemmas
+pub mod TableLemmas
+pub mod PlaceLemmas
+pub mod RuleLemmas
+pub mod ProductLemmas
+pub mod ValueLemmas
+pub mod PartLemmas
+pub mod TakenLemmas
+pub mod SoundLemmas
+pub mod SteadyLemmas
+pub mod MemberLemmas
+pub mod TypeLemmas
+pub mod ItemLemmas
+pub mod WholeLemmas

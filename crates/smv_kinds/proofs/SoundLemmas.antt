@@ -1,0 +1,505 @@
+-- An expression that keeps the rules has a value of what is known of it, where its names have.
+use Rattle.std.proofs.Common.{◌≡◌, ℕ, zero, suc, Bool, true, false, ◌&&◌, ◌||◌, List, [], ◌∷◌, map, Option, Some, None, refl, sym, ap, ◌∙◌, subst, arith}
+use Rattle.std.specs.Prelude.{ℤ, pos, nat_le, int_le}
+use Rattle.std.specs.List.{fold, list_all}
+use Rattle.std.proofs.lemmas.Int.{ints}
+use Rattle.smv_ast.specs.declared.syntax.Op.{Op}
+use Rattle.smv_ast.specs.declared.syntax.Expr.{Expr, Expr-F, roll-Expr, fold-roll-Expr, map-Expr, ind-Expr}
+use Rattle.smv_ast.specs.declared.syntax.Choice.{Choice, Choice-F, roll-Choice, fold-roll-Choice, map-Choice}
+use Rattle.smv_ast.specs.declared.syntax.Branch.{Branch, Branch-F, roll-Branch, fold-roll-Branch}
+use Rattle.smv_meaning.specs.declared.value.Value.{Value}
+use Rattle.smv_meaning.specs.declared.value.Value.TheVariants.{Boolean as Truth, Number as Whole}
+use Rattle.smv_meaning.specs.Value.{Name, and_then, of_both, truth, same, operate, negated, denied, in_range}
+use Rattle.smv_meaning.specs.Senses.{Reading, Valued, Allowed, Sense, BranchSense, single, parts_allow, taken, taken_in, holds_in, choice_sense, expr_sense, branch_sense, sense_of, choice_allows, branch_sense_of}
+use Rattle.smv_kinds.specs.declared.sorts.Sort.{Sort}
+use Rattle.smv_kinds.specs.declared.sorts.Sort.TheVariants.{Nothing}
+use Rattle.smv_kinds.specs.declared.facts.Facts.{Facts}
+use Rattle.smv_kinds.specs.Sorts.{is_boolean, is_number, has_kind, is_small, join, join_both, binary_sort, truth_sort, beside, negated_sort, span_sort}
+use Rattle.smv_kinds.specs.Facts.{truth_facts, number_facts, name_facts, negation_facts, denial_facts, next_facts, binary_facts, binary_rule, mod_rule, parts_sort, parts_facts, span_facts, case_facts, within_offer, all_kinds, all_small, all_mods, all_fit, all_suit, all_agree, Offer, Parts, Span, Guarded, Sorting, offered, choice_layer, expr_layer, branch_layer, facts_of, offer_of, guarded_of}
+use Rattle.smv_kinds.specs.Soundness.{IsTruth, FitsKnown, IsOf, Meets, IsKept, Allows, Shape, BranchShape, single_shape, choice_shape_layer, expr_shape_layer, branch_shape_layer, shape_of, choice_shape, branch_shape}
+use Rattle.smv_kinds.proofs.IntervalLemmas.{both_true}
+use Rattle.smv_kinds.proofs.ValueLemmas.{count_is, operator_makes, negation_makes, denial_makes, same_value}
+use Rattle.smv_kinds.proofs.TakenLemmas.{map_twice, takes_one, HasOne, some_mapped, all_twice}
+use Rattle.smv_kinds.proofs.PartLemmas.{Each, each_all, each_both, node_kept, as_boolean, part_of}
+
+-- ---- what is there
+
+truth_serves : (s : Option Sort) (u : Value) → FitsKnown (truth_sort s) u → IsTruth u
+truth_serves None u h = absurd h
+truth_serves (Some s) u h = h
+
+truth_there : (s : Option Sort) (b : Bool) → has_kind s ≡ true → FitsKnown (truth_sort s) (Truth b)
+truth_there None b h = cc
+truth_there (Some s) b h = (b, refl)
+
+truth_of : (s : Option Sort) (v : Value) (b : Bool) → FitsKnown s v → FitsKnown (truth_sort s) (Truth b)
+truth_of None v b h = absurd h
+truth_of (Some s) v b h = (b, refl)
+
+beside_of : (s t : Option Sort) (v u : Value) → FitsKnown s v → FitsKnown t u → FitsKnown (beside s t) u
+beside_of None t v u h k = absurd h
+beside_of (Some s) t v u h k = k
+
+abbrev IsThere : Option Sort → Type 0
+IsThere o = (s : Sort) × (o ≡ Some s)
+
+there_of : (o : Option Sort) (v : Value) → FitsKnown o v → IsThere o
+there_of None v h = absurd h
+there_of (Some s) v h = (s, refl)
+
+beside_there : (s t : Option Sort) (u : Value) → IsThere s → FitsKnown t u → FitsKnown (beside s t) u
+beside_there s t u h k = subst (λ (o : Option Sort). FitsKnown (beside o t) u) (sym h.1) k
+
+fold_there : (xs : List Facts) (o : Option Sort) → IsThere o → Each (λ x. IsThere x.sort) xs → IsThere (fold (λ sort a. join_both sort a.sort) o xs)
+fold_there [] o h e = h
+fold_there (x ∷ xs) o h e = fold_there xs (join_both o x.sort) (join h.0 e.0.0, ap (λ (p : Option Sort). join_both p x.sort) h.1 ∙ ap (join_both (Some h.0)) e.0.1) e.1
+
+parts_there : (xs : List Facts) → Each (λ x. IsThere x.sort) xs → IsThere (parts_sort xs)
+parts_there [] e = (Nothing, refl)
+parts_there (x ∷ xs) e = fold_there (x ∷ xs) x.sort e.0 e
+
+numeral_serves : (n : ℕ) → nat_le n 1 ≡ true → IsTruth (Whole (pos n))
+numeral_serves zero e = (false, refl)
+numeral_serves (suc zero) e = (true, refl)
+numeral_serves (suc (suc n)) e = absurd (grind arith)
+
+each_map : {A B : Type 0} (P : B → Type 0) (f : A → B) (xs : List A) → Each P (map f xs) → Each (λ x. P (f x)) xs
+each_map P f [] h = tt
+each_map P f (x ∷ xs) h = (h.0, each_map P f xs h.1)
+
+has_one : (fs : List Facts) → has_kind (parts_sort fs) ≡ true → HasOne fs
+has_one [] h = cc
+has_one (f ∷ fs) h = tt
+
+-- ---- expressions
+
+module _ (on : Sorting) where
+  -- names stand for values of their sorts
+  abbrev pub Agrees : Reading → Type 0
+  Agrees now = (path : List Name) → has_kind (on path) ≡ true → is_small (on path) ≡ true → (v : Value) × (now path ≡ Some v) × FitsKnown (on path) v
+
+  -- what keeps the rules has a value, and allows one as a right side
+  pub record SoundAs (f : Facts) (sh : Shape) (s : Sense) : Type 0 where
+    pub loose : sh.plain ≡ true → sh.free ≡ true
+    pub value : (now after : Reading) → Agrees now → Agrees after → IsKept f → sh.plain ≡ true → Meets f (s.value now after)
+    pub allows : (now after : Reading) → Agrees now → Agrees after → IsKept f → sh.free ≡ true → Allows f (s.allows now after)
+
+  record SoundAsChoice (o : Offer) (sh : Shape) (al : Allowed) : Type 0 where
+    within : (now after : Reading) → Agrees now → Agrees after → IsKept (offered o) → sh.plain ≡ true → (v : Value) → (b : Bool) × (al now after v ≡ Some b)
+    allows : (now after : Reading) → Agrees now → Agrees after → IsKept (offered o) → sh.free ≡ true → Allows (offered o) (al now after)
+
+  record SoundAsBranch (g : Guarded) (sh : BranchShape) (s : BranchSense) : Type 0 where
+    cond : SoundAs g.cond sh.cond s.cond
+    value : SoundAs g.value sh.value s.value
+
+  abbrev SoundExpr : Expr → Type 0
+  SoundExpr e = SoundAs (facts_of on e) (shape_of e) (sense_of e)
+
+  abbrev SoundChoice : Choice → Type 0
+  SoundChoice c = SoundAsChoice (offer_of on c) (choice_shape c) (choice_allows c)
+
+  abbrev SoundBranch : Branch → Type 0
+  SoundBranch b = SoundAsBranch (guarded_of on b) (branch_shape b) (branch_sense_of b)
+
+  abbrev Exprs : Type 0
+  Exprs = (e : Expr) × SoundExpr e
+
+  abbrev Choices : Type 0
+  Choices = (c : Choice) × SoundChoice c
+
+  abbrev Branches : Type 0
+  Branches = (b : Branch) × SoundBranch b
+
+  -- an expression that is no choice allows its value
+  alone : (f : Facts) (plain : Bool) (meant : Valued) → ((now after : Reading) → Agrees now → Agrees after → IsKept f → plain ≡ true → Meets f (meant now after)) → SoundAs f (single_shape plain) (single meant)
+  alone f plain meant has = record {
+    loose = λ e. e;
+    value = has;
+    allows = λ now after n a k p.
+        let m = has now after n a k p in
+        record {
+          total = λ v. (same v m.0, ap (λ (o : Option Value). and_then o (λ w. Some (same v w))) m.1);
+          some = (m.0, m.2, ap (λ (o : Option Value). and_then o (λ w. Some (same m.0 w))) m.1 ∙ ap Some (same_value m.0));
+        };
+  }
+
+  -- ---- parts of a set
+
+  abbrev facts_from : List Exprs → List Facts
+  facts_from xs = map (facts_of on) (map (λ x. x.0) xs)
+
+  abbrev shapes_from : List Exprs → List Shape
+  shapes_from xs = map shape_of (map (λ x. x.0) xs)
+
+  record AllKept (fs : List Facts) : Type 0 where
+    kinds : all_kinds fs ≡ true
+    small : all_small fs ≡ true
+    mods : all_mods fs ≡ true
+
+  first_kept : (f : Facts) (fs : List Facts) → AllKept (f ∷ fs) → IsKept f × AllKept fs
+  first_kept f fs h =
+      let a = both_true f.kinds (all_kinds fs) h.kinds in
+      let b = both_true f.small (all_small fs) h.small in
+      let c = both_true f.mods (all_mods fs) h.mods in
+      (record { kinds = a.0; small = b.0; mods = c.0 }, record { kinds = a.1; small = b.1; mods = c.1 })
+
+  parts_kept : (fs : List Facts) → IsKept (parts_facts fs) → AllKept fs
+  parts_kept fs h =
+      let n = node_kept (parts_sort fs) (is_boolean (parts_sort fs) || all_fit fs) (all_kinds fs && all_suit (parts_sort fs) fs) (all_small fs) (all_mods fs) h in
+      record { kinds = (both_true (all_kinds fs) (all_suit (parts_sort fs) fs) n.kinds_kept).0; small = n.small_kept; mods = n.mods_kept }
+
+  parts_total : (now after : Reading) → Agrees now → Agrees after → (xs : List Exprs) → AllKept (facts_from xs) → list_all (λ p. p.free) (shapes_from xs) ≡ true → (v : Value) → (b : Bool) × (parts_allow now after v (map sense_of (map (λ x. x.0) xs)) ≡ Some b)
+  parts_total now after n a [] k s v = (false, refl)
+  parts_total now after n a (x ∷ xs) k s v =
+      let f = first_kept (facts_of on x.0) (facts_from xs) k in
+      let t = both_true (shape_of x.0).free (list_all (λ p. p.free) (shapes_from xs)) s in
+      let b = (x.1.allows now after n a f.0 t.0).total v in
+      let c = parts_total now after n a xs f.1 t.1 v in
+      (b.0 || c.0, ap (λ (o : Option Bool). of_both (λ b c. Some (b || c)) o (parts_allow now after v (map sense_of (map (λ x. x.0) xs)))) b.1 ∙ ap (of_both (λ b c. Some (b || c)) (Some b.0)) c.1)
+
+  loose_parts : (xs : List Exprs) → list_all (λ p. p.plain) (shapes_from xs) ≡ true → list_all (λ p. p.free) (shapes_from xs) ≡ true
+  loose_parts [] h = refl
+  loose_parts (x ∷ xs) h =
+      let t = both_true (shape_of x.0).plain (list_all (λ p. p.plain) (shapes_from xs)) h in
+      rw (x.1.loose t.0) (loose_parts xs t.1)
+
+  parts_some : (now after : Reading) → Agrees now → Agrees after → (xs : List Exprs) → IsKept (parts_facts (facts_from xs)) → list_all (λ p. p.free) (shapes_from xs) ≡ true →
+      (v : Value) × IsOf (parts_facts (facts_from xs)) v × (parts_allow now after v (map sense_of (map (λ x. x.0) xs)) ≡ Some true)
+  parts_some now after n a [] k s = let e = k.kinds in cc
+  parts_some now after n a (x ∷ xs) k s =
+      let f = first_kept (facts_of on x.0) (facts_from xs) (parts_kept (facts_from (x ∷ xs)) k) in
+      let t = both_true (shape_of x.0).free (list_all (λ p. p.free) (shapes_from xs)) s in
+      let w = (x.1.allows now after n a f.0 t.0).some in
+      let c = parts_total now after n a xs f.1 t.1 w.0 in
+      let up = (part_of (facts_from (x ∷ xs)) k).0 in
+      (w.0, up w.0 w.1, ap (λ (o : Option Bool). of_both (λ b c. Some (b || c)) o (parts_allow now after w.0 (map sense_of (map (λ x. x.0) xs)))) w.2 ∙ ap (of_both (λ b c. Some (b || c)) (Some true)) c.1)
+
+  -- the parts of a choice
+  abbrev choice_from : Choice-F Choices Exprs Branches → Choice-F Choice Expr Branch
+  choice_from = map-Choice Choices Exprs Branches Choice Expr Branch (λ c. c.0) (λ e. e.0) (λ b. b.0)
+
+  abbrev choice_facts : Choice-F Choice Expr Branch → Choice-F Offer Facts Guarded
+  choice_facts = map-Choice Choice Expr Branch Offer Facts Guarded (offer_of on) (facts_of on) (guarded_of on)
+
+  abbrev choice_shapes : Choice-F Choice Expr Branch → Choice-F Shape Shape BranchShape
+  choice_shapes = map-Choice Choice Expr Branch Shape Shape BranchShape choice_shape shape_of branch_shape
+
+  abbrev choice_senses : Choice-F Choice Expr Branch → Choice-F Allowed Sense BranchSense
+  choice_senses = map-Choice Choice Expr Branch Allowed Sense BranchSense choice_allows sense_of branch_sense_of
+
+  span_some : (low high : ℤ) → IsKept (span_facts low high) → int_le low high ≡ true → Allows (span_facts low high) (λ v. Some (in_range low high v))
+  span_some low high k e =
+      let n = node_kept (Some (span_sort low high)) false true true true k in
+      let c = count_is low high low n.narrow (omega (arith, ints)) (omega (arith, ints, e)) in
+      let l : int_le low low ≡ true = grind (arith, ints) in
+      record {
+        total = λ v. (in_range low high v, refl);
+        some = (Whole low, record { sort = c.0; serves = λ f. cc }, ap Some (ap (λ (b : Bool). b && int_le low high) l ∙ e));
+      }
+
+  choice_sound : (y : Choice-F Choices Exprs Branches) → SoundAsChoice (choice_layer (choice_facts (choice_from y))) (choice_shape_layer (choice_shapes (choice_from y))) (choice_sense (choice_senses (choice_from y)))
+  choice_sound (Choice-F.Each xs) = record {
+    within = λ now after n a k p v. parts_total now after n a xs (parts_kept (facts_from xs) k) (loose_parts xs p) v;
+    allows = λ now after n a k p. record {
+      total = parts_total now after n a xs (parts_kept (facts_from xs) k) p;
+      some = parts_some now after n a xs k p;
+    };
+  }
+  choice_sound (Choice-F.Between low high) = record {
+    within = λ now after n a k p v. (in_range low high v, refl);
+    allows = λ now after n a k p. span_some low high k p;
+  }
+
+  -- ---- cases
+
+  -- what is known of the branches of a case
+  abbrev conds : List Branches → List Facts
+  conds bs = map (λ g. g.cond) (map (guarded_of on) (map (λ b. b.0) bs))
+
+  abbrev values : List Branches → List Facts
+  values bs = map (λ g. g.value) (map (guarded_of on) (map (λ b. b.0) bs))
+
+  abbrev branch_shapes : List Branches → List BranchShape
+  branch_shapes bs = map branch_shape (map (λ b. b.0) bs)
+
+  abbrev senses : List Branches → List BranchSense
+  senses bs = map branch_sense_of (map (λ b. b.0) bs)
+
+  -- a branch whose parts keep the rules
+  record Ready (b : Branches) : Type 0 where
+    cond : IsKept (guarded_of on b.0).cond
+    fits : (guarded_of on b.0).cond.fits ≡ true
+    plain : (branch_shape b.0).cond.plain ≡ true
+    value : IsKept (guarded_of on b.0).value
+
+  ready : (bs : List Branches) → AllKept (conds bs) → all_fit (conds bs) ≡ true → AllKept (values bs) → list_all (λ b. b.cond.plain) (branch_shapes bs) ≡ true → Each Ready bs
+  ready [] c f v s = tt
+  ready (b ∷ bs) c f v s =
+      let x = first_kept (guarded_of on b.0).cond (conds bs) c in
+      let y = both_true (guarded_of on b.0).cond.fits (all_fit (conds bs)) f in
+      let z = first_kept (guarded_of on b.0).value (values bs) v in
+      let p = both_true (branch_shape b.0).cond.plain (list_all (λ b. b.cond.plain) (branch_shapes bs)) s in
+      (record { cond = x.0; fits = y.0; plain = p.0; value = z.0 }, ready bs x.1 y.1 z.1 p.1)
+
+  module _ (now after : Reading) (n : Agrees now) (a : Agrees after) where
+    -- each condition has a truth value
+    told : (bs : List Branches) → Each Ready bs → Each (λ b. (t : Bool) × (holds_in now after (branch_sense_of b.0) ≡ Some t)) bs
+    told [] r = tt
+    told (b ∷ bs) r =
+        let m = b.1.cond.value now after n a r.0.cond r.0.plain in
+        let t = m.2.serves r.0.fits in
+        ((t.0, ap (λ (o : Option Value). and_then o truth) m.1 ∙ t.1), told bs r.1)
+
+    -- the branch that is taken is one of them
+    abbrev TakesOne : (Branches → Type 0) → List Branches → Type 0
+    TakesOne P bs = (b : Branches) × (taken_in now after (senses bs) ≡ Some (branch_sense_of b.0)) × P b
+
+    taken_is : (P : Branches → Type 0) (bs : List Branches) → HasOne bs → Each Ready bs → Each P bs → TakesOne P bs
+    taken_is P bs k r p =
+        let t = takes_one (λ b. branch_sense_of b.0) (holds_in now after) P bs k (told bs r) p in
+        (t.0, ap (taken (holds_in now after)) (map_twice branch_sense_of (λ b. b.0) bs) ∙ t.1, t.2)
+
+    -- the sorts of the conditions are there
+    conds_there : (bs : List Branches) → Each Ready bs → Each (λ x. IsThere x.sort) (conds bs)
+    conds_there [] r = tt
+    conds_there (b ∷ bs) r =
+        let m = b.1.cond.value now after n a r.0.cond r.0.plain in (there_of (guarded_of on b.0).cond.sort m.0 m.2.sort, conds_there bs r.1)
+
+    -- a value of a branch is of what is known of the case
+    lifted : (bs : List Branches) (v : Value) → Each Ready bs → IsOf (parts_facts (values bs)) v → IsOf (case_facts (conds bs) (values bs)) v
+    lifted bs v r h = record {
+      sort = beside_there (parts_sort (conds bs)) (parts_sort (values bs)) v (parts_there (conds bs) (conds_there bs r)) h.sort;
+      serves = h.serves;
+    }
+
+  -- what is known of a case is kept in its parts
+  record CaseKept (bs : List Branches) : Type 0 where
+    values_kept : IsKept (parts_facts (values bs))
+    conds_kept : AllKept (conds bs)
+    fit : all_fit (conds bs) ≡ true
+    one : HasOne bs
+
+  case_kept : (bs : List Branches) → IsKept (case_facts (conds bs) (values bs)) → CaseKept bs
+  case_kept bs k =
+      let b = both_true ((parts_facts (values bs)).kinds && all_kinds (conds bs)) (all_fit (conds bs)) k.kinds in
+      let a = both_true (parts_facts (values bs)).kinds (all_kinds (conds bs)) b.0 in
+      let c = both_true (parts_facts (values bs)).small (all_small (conds bs)) k.small in
+      let d = both_true (parts_facts (values bs)).mods (all_mods (conds bs)) k.mods in
+      let e = both_true (all_kinds (values bs) && all_suit (parts_sort (values bs)) (values bs)) (has_kind (parts_sort (values bs))) a.0 in
+      let one : HasOne (values bs) = has_one (values bs) e.1 in
+      record {
+        values_kept = record { kinds = a.0; small = c.0; mods = d.0 };
+        conds_kept = record { kinds = a.1; small = c.1; mods = d.1 };
+        fit = b.1;
+        one = some_mapped (λ b. b.0) bs (some_mapped (guarded_of on) (map (λ b. b.0) bs) (some_mapped (λ g. g.value) (map (guarded_of on) (map (λ b. b.0) bs)) one));
+      }
+
+  -- a branch of a case that keeps the rules
+  record Piece (f : Facts) (flag : BranchShape → Bool) (b : Branches) : Type 0 where
+    is_ready : Ready b
+    up : (v : Value) → IsOf (guarded_of on b.0).value v → IsOf f v
+    flagged : flag (branch_shape b.0) ≡ true
+
+  ready_of : (bs : List Branches) → CaseKept bs → list_all (λ b. b.cond.plain) (branch_shapes bs) ≡ true → Each Ready bs
+  ready_of bs c s = ready bs c.conds_kept c.fit (parts_kept (values bs) c.values_kept) s
+
+  pieces : (flag : BranchShape → Bool) (bs : List Branches) → CaseKept bs → Each Ready bs → list_all flag (branch_shapes bs) ≡ true → Each (Piece (parts_facts (values bs)) flag) bs
+  pieces flag bs c r s =
+      let f = parts_facts (values bs) in
+      let ups = each_map (λ g. (v : Value) → IsOf g.value v → IsOf f v) (guarded_of on) (map (λ b. b.0) bs) (each_map (λ x. (v : Value) → IsOf x v → IsOf f v) (λ g. g.value) (map (guarded_of on) (map (λ b. b.0) bs)) (part_of (values bs) c.values_kept)) in
+      let flags = each_map (λ s. flag s ≡ true) branch_shape (map (λ b. b.0) bs) (each_all flag (branch_shapes bs) s) in
+      let both = each_both (λ b. (v : Value) → IsOf (guarded_of on b).value v → IsOf f v) (λ b. flag (branch_shape b) ≡ true) (λ b. ((v : Value) → IsOf (guarded_of on b).value v → IsOf f v) × (flag (branch_shape b) ≡ true)) (λ b x y. (x, y)) (map (λ b. b.0) bs) ups flags in
+      each_both Ready (λ b. ((v : Value) → IsOf (guarded_of on b.0).value v → IsOf f v) × (flag (branch_shape b.0) ≡ true)) (Piece f flag) (λ b x y. record { is_ready = x; up = y.0; flagged = y.1 }) bs r (each_map (λ b. ((v : Value) → IsOf (guarded_of on b).value v → IsOf f v) × (flag (branch_shape b) ≡ true)) (λ b. b.0) bs both)
+
+  case_value : (now after : Reading) → Agrees now → Agrees after → (bs : List Branches) → IsKept (case_facts (conds bs) (values bs)) → list_all (λ b. b.cond.plain && b.value.plain) (branch_shapes bs) ≡ true →
+      Meets (case_facts (conds bs) (values bs)) (and_then (taken_in now after (senses bs)) (λ s. s.value.value now after))
+  case_value now after n a bs k p =
+      let c = case_kept bs k in
+      let s = all_twice (λ b. b.cond.plain) (λ b. b.value.plain) (branch_shapes bs) p in
+      let r = ready_of bs c s.0 in
+      let t = taken_is now after n a (Piece (parts_facts (values bs)) (λ b. b.value.plain)) bs c.one r (pieces (λ b. b.value.plain) bs c r s.1) in
+      let m = t.0.1.value.value now after n a t.2.is_ready.value t.2.flagged in
+      (m.0, ap (λ (o : Option BranchSense). and_then o (λ s. s.value.value now after)) t.1 ∙ m.1, lifted now after n a bs m.0 r (t.2.up m.0 m.2))
+
+  case_allowed : (now after : Reading) → Agrees now → Agrees after → (bs : List Branches) → IsKept (case_facts (conds bs) (values bs)) → list_all (λ b. b.cond.plain && b.value.free) (branch_shapes bs) ≡ true →
+      Allows (case_facts (conds bs) (values bs)) (λ v. and_then (taken_in now after (senses bs)) (λ s. s.value.allows now after v))
+  case_allowed now after n a bs k p =
+      let c = case_kept bs k in
+      let s = all_twice (λ b. b.cond.plain) (λ b. b.value.free) (branch_shapes bs) p in
+      let r = ready_of bs c s.0 in
+      let t = taken_is now after n a (Piece (parts_facts (values bs)) (λ b. b.value.free)) bs c.one r (pieces (λ b. b.value.free) bs c r s.1) in
+      let m = t.0.1.value.allows now after n a t.2.is_ready.value t.2.flagged in
+      record {
+        total = λ v. let x = m.total v in (x.0, ap (λ (o : Option BranchSense). and_then o (λ s. s.value.allows now after v)) t.1 ∙ x.1);
+        some = (m.some.0, lifted now after n a bs m.some.0 r (t.2.up m.some.0 m.some.1), ap (λ (o : Option BranchSense). and_then o (λ s. s.value.allows now after m.some.0)) t.1 ∙ m.some.2);
+      }
+
+  case_loose : (bs : List Branches) → list_all (λ b. b.cond.plain && b.value.plain) (branch_shapes bs) ≡ true → list_all (λ b. b.cond.plain && b.value.free) (branch_shapes bs) ≡ true
+  case_loose [] h = refl
+  case_loose (b ∷ bs) h =
+      let x = both_true ((branch_shape b.0).cond.plain && (branch_shape b.0).value.plain) (list_all (λ b. b.cond.plain && b.value.plain) (branch_shapes bs)) h in
+      let y = both_true (branch_shape b.0).cond.plain (branch_shape b.0).value.plain x.0 in
+      rw (y.0, b.1.value.loose y.1) (case_loose bs x.1)
+
+  cases_sound : (bs : List Branches) → SoundAs (case_facts (conds bs) (values bs)) (expr_shape_layer (Expr-F.Cases (branch_shapes bs))) (expr_sense (Expr-F.Cases (senses bs)))
+  cases_sound bs = record {
+    loose = case_loose bs;
+    value = λ now after n a k p. case_value now after n a bs k p;
+    allows = λ now after n a k p. case_allowed now after n a bs k p;
+  }
+
+  -- ---- all expressions
+
+  abbrev expr_from : Expr-F Choices Exprs Branches → Expr-F Choice Expr Branch
+  expr_from = map-Expr Choices Exprs Branches Choice Expr Branch (λ c. c.0) (λ e. e.0) (λ b. b.0)
+
+  abbrev expr_facts : Expr-F Choice Expr Branch → Expr-F Offer Facts Guarded
+  expr_facts = map-Expr Choice Expr Branch Offer Facts Guarded (offer_of on) (facts_of on) (guarded_of on)
+
+  abbrev expr_shapes : Expr-F Choice Expr Branch → Expr-F Shape Shape BranchShape
+  expr_shapes = map-Expr Choice Expr Branch Shape Shape BranchShape choice_shape shape_of branch_shape
+
+  abbrev expr_senses : Expr-F Choice Expr Branch → Expr-F Allowed Sense BranchSense
+  expr_senses = map-Expr Choice Expr Branch Allowed Sense BranchSense choice_allows sense_of branch_sense_of
+
+  -- what keeps the rules of a node, in its parts
+  part_kept : (x y : Bool) → x ≡ true → y ≡ true → x && y ≡ true
+  part_kept x y h k = rw (h, k) refl
+
+  name_value : (now : Reading) → Agrees now → (path : List Name) → IsKept (name_facts (on path)) → Meets (name_facts (on path)) (now path)
+  name_value now n path k =
+      let d = node_kept (on path) (is_boolean (on path)) true true true k in
+      let r = n path d.kind d.narrow in
+      (r.0, r.1, record { sort = r.2; serves = λ e. as_boolean (on path) r.0 e r.2 })
+
+  number_value : (m : ℕ) → IsKept (number_facts m) → IsOf (number_facts m) (Whole (pos m))
+  number_value m k =
+      let d = node_kept (Some (span_sort (pos m) (pos m))) (nat_le m 1) true true true k in
+      record { sort = (count_is (pos m) (pos m) (pos m) d.narrow (omega (arith, ints)) (omega (arith, ints))).0; serves = numeral_serves m }
+
+  neg_value : (a : Facts) (o : Option Value) → IsKept (negation_facts a) → (IsKept a → Meets a o) → Meets (negation_facts a) (and_then o negated)
+  neg_value a o k has =
+      let d = node_kept (negated_sort a.sort) false (a.kinds && is_number a.sort) a.small a.mods k in
+      let e = both_true a.kinds (is_number a.sort) d.kinds_kept in
+      let m = has (record { kinds = e.0; small = d.small_kept; mods = d.mods_kept }) in
+      let r = negation_makes a.sort m.0 e.1 d.narrow m.2.sort in
+      (r.0, ap (λ (x : Option Value). and_then x negated) m.1 ∙ r.1, record { sort = r.2; serves = λ e. cc })
+
+  not_value : (a : Facts) (o : Option Value) → IsKept (denial_facts a) → (IsKept a → Meets a o) → Meets (denial_facts a) (and_then o denied)
+  not_value a o k has =
+      let d = node_kept (truth_sort a.sort) true (a.kinds && a.fits) a.small a.mods k in
+      let e = both_true a.kinds a.fits d.kinds_kept in
+      let m = has (record { kinds = e.0; small = d.small_kept; mods = d.mods_kept }) in
+      let r = denial_makes a m.0 e.1 m.2 in
+      (r.0, ap (λ (x : Option Value). and_then x denied) m.1 ∙ r.1, record { sort = r.2; serves = λ e. truth_serves a.sort r.0 r.2 })
+
+  next_value : (a : Facts) (o : Option Value) → IsKept (next_facts a) → (IsKept a → Meets a o) → Meets (next_facts a) o
+  next_value a o k has =
+      let d = node_kept a.sort (is_boolean a.sort) a.kinds a.small a.mods k in
+      let m = has (record { kinds = d.kinds_kept; small = d.small_kept; mods = d.mods_kept }) in
+      (m.0, m.1, record { sort = m.2.sort; serves = λ e. as_boolean a.sort m.0 e m.2.sort })
+
+  binary_value : (p : Op) (a b : Facts) (o q : Option Value) → IsKept (binary_facts p a b) → (IsKept a → Meets a o) → (IsKept b → Meets b q) → Meets (binary_facts p a b) (of_both (operate p) o q)
+  binary_value p a b o q k has had =
+      let s = binary_sort p a.sort b.sort in
+      let d = node_kept s (is_boolean s) (a.kinds && b.kinds && binary_rule p a b) (a.small && b.small) (a.mods && b.mods && mod_rule p a b) k in
+      let e = both_true (a.kinds && b.kinds) (binary_rule p a b) d.kinds_kept in
+      let f = both_true a.kinds b.kinds e.0 in
+      let g = both_true a.small b.small d.small_kept in
+      let h = both_true (a.mods && b.mods) (mod_rule p a b) d.mods_kept in
+      let i = both_true a.mods b.mods h.0 in
+      let m = has (record { kinds = f.0; small = g.0; mods = i.0 }) in
+      let n = had (record { kinds = f.1; small = g.1; mods = i.1 }) in
+      let r = operator_makes p a b m.0 n.0 e.1 h.1 d.narrow m.2 n.2 in
+      (r.0, ap (λ (x : Option Value). of_both (operate p) x q) m.1 ∙ (ap (of_both (operate p) (Some m.0)) n.1 ∙ r.1), record { sort = r.2; serves = λ e. as_boolean s r.0 e r.2 })
+
+  -- a value and a choice that it is looked for in
+  within_value : (a : Facts) (c : Offer) (o : Option Value) (al : Value → Option Bool) → IsKept (within_offer a c) → (IsKept a → Meets a o) → (IsKept (offered c) → (v : Value) → (b : Bool) × (al v ≡ Some b)) →
+      Meets (within_offer a c) (and_then o (λ v. and_then (al v) (λ b. Some (Truth b))))
+  within_value a (Parts parts) o al k has had =
+      let set = parts_facts parts in
+      let s = beside a.sort (truth_sort set.sort) in
+      let d = node_kept s true (a.kinds && set.kinds && all_agree a parts) (a.small && set.small) (a.mods && set.mods) k in
+      let e = both_true (a.kinds && set.kinds) (all_agree a parts) d.kinds_kept in
+      let f = both_true a.kinds set.kinds e.0 in
+      let g = both_true a.small set.small d.small_kept in
+      let i = both_true a.mods set.mods d.mods_kept in
+      let set_kept : IsKept set = record { kinds = f.1; small = g.1; mods = i.1 } in
+      let m = has (record { kinds = f.0; small = g.0; mods = i.0 }) in
+      let b = had set_kept m.0 in
+      let there = (both_true (all_kinds parts && all_suit (parts_sort parts) parts) (has_kind (parts_sort parts)) f.1).1 in (
+        Truth b.0,
+        ap (λ (x : Option Value). and_then x (λ v. and_then (al v) (λ b. Some (Truth b)))) m.1 ∙ ap (λ (x : Option Bool). and_then x (λ b. Some (Truth b))) b.1,
+        record { sort = beside_of a.sort (truth_sort set.sort) m.0 (Truth b.0) m.2.sort (truth_there (parts_sort parts) b.0 there); serves = λ e. (b.0, refl) },
+      )
+  within_value a (Span low high) o al k has had =
+      let d = node_kept (truth_sort a.sort) true (a.kinds && is_number a.sort) (a.small && is_small (Some (span_sort low high))) a.mods k in
+      let e = both_true a.kinds (is_number a.sort) d.kinds_kept in
+      let g = both_true a.small (is_small (Some (span_sort low high))) d.small_kept in
+      let m = has (record { kinds = e.0; small = g.0; mods = d.mods_kept }) in
+      let span_kept : IsKept (span_facts low high) = record { kinds = refl; small = g.1; mods = refl } in
+      let b = had span_kept m.0 in (
+        Truth b.0,
+        ap (λ (x : Option Value). and_then x (λ v. and_then (al v) (λ b. Some (Truth b)))) m.1 ∙ ap (λ (x : Option Bool). and_then x (λ b. Some (Truth b))) b.1,
+        record { sort = truth_of a.sort m.0 b.0 m.2.sort; serves = λ e. (b.0, refl) },
+      )
+
+  neg_sound : (a : Exprs) → SoundAs (negation_facts (facts_of on a.0)) (single_shape (shape_of a.0).plain) (single (λ now after. and_then ((sense_of a.0).value now after) negated))
+  neg_sound a = alone _ _ _ (λ now after n u k p. neg_value (facts_of on a.0) ((sense_of a.0).value now after) k (λ x. a.1.value now after n u x p))
+
+  not_sound : (a : Exprs) → SoundAs (denial_facts (facts_of on a.0)) (single_shape (shape_of a.0).plain) (single (λ now after. and_then ((sense_of a.0).value now after) denied))
+  not_sound a = alone _ _ _ (λ now after n u k p. not_value (facts_of on a.0) ((sense_of a.0).value now after) k (λ x. a.1.value now after n u x p))
+
+  next_sound : (a : Exprs) → SoundAs (next_facts (facts_of on a.0)) (single_shape (shape_of a.0).plain) (single (λ now after. (sense_of a.0).value after after))
+  next_sound a = alone _ _ _ (λ now after n u k p. next_value (facts_of on a.0) ((sense_of a.0).value after after) k (λ x. a.1.value after after u u x p))
+
+  binary_sound : (op : Op) (a b : Exprs) → SoundAs (binary_facts op (facts_of on a.0) (facts_of on b.0)) (single_shape ((shape_of a.0).plain && (shape_of b.0).plain)) (single (λ now after. of_both (operate op) ((sense_of a.0).value now after) ((sense_of b.0).value now after)))
+  binary_sound op a b = alone _ _ _ (λ now after n u k p. let q = both_true (shape_of a.0).plain (shape_of b.0).plain p in
+      binary_value op (facts_of on a.0) (facts_of on b.0) ((sense_of a.0).value now after) ((sense_of b.0).value now after) k (λ x. a.1.value now after n u x q.0) (λ x. b.1.value now after n u x q.1))
+
+  within_sound : (a : Exprs) (c : Choices) → SoundAs (within_offer (facts_of on a.0) (offer_of on c.0)) (single_shape ((shape_of a.0).plain && (choice_shape c.0).plain)) (single (λ now after. and_then ((sense_of a.0).value now after) (λ v. and_then (choice_allows c.0 now after v) (λ b. Some (Truth b)))))
+  within_sound a c = alone _ _ _ (λ now after n u k p. let q = both_true (shape_of a.0).plain (choice_shape c.0).plain p in
+      within_value (facts_of on a.0) (offer_of on c.0) ((sense_of a.0).value now after) (choice_allows c.0 now after) k (λ x. a.1.value now after n u x q.0) (λ x v. c.1.within now after n u x q.1 v))
+
+  pick_sound : (c : Choices) → SoundAs (offered (offer_of on c.0)) (record { plain = false; free = (choice_shape c.0).free }) (record { value = λ now after. None; allows = choice_allows c.0 })
+  pick_sound c = record { loose = λ e. cc; value = λ now after n u k p. cc; allows = c.1.allows }
+
+  expr_sound : (y : Expr-F Choices Exprs Branches) → SoundAs (expr_layer on (expr_facts (expr_from y))) (expr_shape_layer (expr_shapes (expr_from y))) (expr_sense (expr_senses (expr_from y)))
+  expr_sound Expr-F.True = alone truth_facts true (λ now after. Some (Truth true)) (λ now after n u k p. (Truth true, refl, record { sort = (true, refl); serves = λ e. (true, refl) }))
+  expr_sound Expr-F.False = alone truth_facts true (λ now after. Some (Truth false)) (λ now after n u k p. (Truth false, refl, record { sort = (false, refl); serves = λ e. (false, refl) }))
+  expr_sound (Expr-F.Number m) = alone (number_facts m) true (λ now after. Some (Whole (pos m))) (λ now after n u k p. (Whole (pos m), refl, number_value m k))
+  expr_sound (Expr-F.Name path) = alone (name_facts (on path.names)) true (λ now after. now path.names) (λ now after n u k p. name_value now n path.names k)
+  expr_sound (Expr-F.Neg a) = neg_sound a
+  expr_sound (Expr-F.Not a) = not_sound a
+  expr_sound (Expr-F.Binary op a b) = binary_sound op a b
+  expr_sound (Expr-F.Within a c) = within_sound a c
+  expr_sound (Expr-F.Cases branches) = cases_sound branches
+  expr_sound (Expr-F.Next a) = next_sound a
+  expr_sound (Expr-F.Pick c) = pick_sound c
+
+  -- from layers to expressions, choices and branches
+  choice_step : (d : Choice-F Choice Expr Branch) → SoundAsChoice (choice_layer (choice_facts d)) (choice_shape_layer (choice_shapes d)) (choice_sense (choice_senses d)) → SoundChoice (roll-Choice d)
+  choice_step d h =
+      subst (λ (x : Offer). SoundAsChoice x (choice_shape (roll-Choice d)) (choice_allows (roll-Choice d))) (sym (fold-roll-Choice Offer Facts Guarded choice_layer (expr_layer on) branch_layer d))
+      (subst (λ (x : Shape). SoundAsChoice (choice_layer (choice_facts d)) x (choice_allows (roll-Choice d))) (sym (fold-roll-Choice Shape Shape BranchShape choice_shape_layer expr_shape_layer branch_shape_layer d))
+      (subst (λ (x : Allowed). SoundAsChoice (choice_layer (choice_facts d)) (choice_shape_layer (choice_shapes d)) x) (sym (fold-roll-Choice Allowed Sense BranchSense choice_sense expr_sense branch_sense d)) h))
+
+  expr_step : (d : Expr-F Choice Expr Branch) → SoundAs (expr_layer on (expr_facts d)) (expr_shape_layer (expr_shapes d)) (expr_sense (expr_senses d)) → SoundExpr (roll-Expr d)
+  expr_step d h =
+      subst (λ (x : Facts). SoundAs x (shape_of (roll-Expr d)) (sense_of (roll-Expr d))) (sym (fold-roll-Expr Offer Facts Guarded choice_layer (expr_layer on) branch_layer d))
+      (subst (λ (x : Shape). SoundAs (expr_layer on (expr_facts d)) x (sense_of (roll-Expr d))) (sym (fold-roll-Expr Shape Shape BranchShape choice_shape_layer expr_shape_layer branch_shape_layer d))
+      (subst (λ (x : Sense). SoundAs (expr_layer on (expr_facts d)) (expr_shape_layer (expr_shapes d)) x) (sym (fold-roll-Expr Allowed Sense BranchSense choice_sense expr_sense branch_sense d)) h))
+
+  branch_step : (x y : Exprs) → SoundBranch (roll-Branch (record { cond = x.0; value = y.0 }))
+  branch_step x y =
+      let d : Branch-F Choice Expr Branch = record { cond = x.0; value = y.0 } in
+      subst (λ (z : Guarded). SoundAsBranch z (branch_shape (roll-Branch d)) (branch_sense_of (roll-Branch d))) (sym (fold-roll-Branch Offer Facts Guarded choice_layer (expr_layer on) branch_layer d))
+      (subst (λ (z : BranchShape). SoundAsBranch (record { cond = facts_of on x.0; value = facts_of on y.0 }) z (branch_sense_of (roll-Branch d))) (sym (fold-roll-Branch Shape Shape BranchShape choice_shape_layer expr_shape_layer branch_shape_layer d))
+      (subst (λ (z : BranchSense). SoundAsBranch (record { cond = facts_of on x.0; value = facts_of on y.0 }) (record { cond = shape_of x.0; value = shape_of y.0 }) z) (sym (fold-roll-Branch Allowed Sense BranchSense choice_sense expr_sense branch_sense d)) (record { cond = x.1; value = y.1 })))
+
+  -- each expression that keeps the rules has a value of what is known of it
+  pub sound : (e : Expr) → SoundExpr e
+  sound = ind-Expr SoundChoice SoundExpr SoundBranch
+      (λ x y e. subst (λ (d : Choice-F Choice Expr Branch). SoundChoice (roll-Choice d)) e (choice_step (choice_from y) (choice_sound y)))
+      (λ x y e. subst (λ (d : Expr-F Choice Expr Branch). SoundExpr (roll-Expr d)) e (expr_step (expr_from y) (expr_sound y)))
+      (λ x y e. subst (λ (d : Branch-F Choice Expr Branch). SoundBranch (roll-Branch d)) e (branch_step y.cond y.value))

@@ -1,0 +1,6 @@
+use Rattle.std.proofs.Common.{rules}
+use Rattle.smv_kinds.proofs.IntervalLemmas.{checked_ends}
+use Rattle.smv_kinds.proofs.intervals.difference.Goals as goal
+
+pub returns : goal.returns
+returns c = search (rules, checked_ends _ _ _ _ c.checked_sub.ensures c.checked_sub-2.ensures)

@@ -1,0 +1,112 @@
+//! What is known of expressions, with names read in an instance.
+
+ghost use Rattle.std.specs.Prelude.{◌≡◌, IfOk, map};
+ghost use Rattle.smv_kinds.specs.Facts as spec;
+ghost use Rattle.smv_kinds.specs.Readings as readings;
+
+use crate::facts::{
+    Facts, binary_facts, case_facts, denial_facts, name_facts, negation_facts, next_facts,
+    number_facts, parts_facts, span_facts, truth_facts, within_parts, within_span,
+};
+use crate::net::Reader;
+use smv_ast::{Boxed, Branch, Choice, Expr, List, NoMemory};
+use std::alloc::Global;
+
+/// What is known of an expression. The only error is want of memory.
+#[cycle(expressions)]
+pub fn facts_of<'t>(alloc: Global, reader: &Reader<'t>, e: &Expr) -> Result<Facts, NoMemory>
+    ensures { IfOk result (λ f. f ≡ spec.facts_of (readings.reads reader.now) e.now) }
+{
+    match e {
+        Expr::True | Expr::False => Ok(truth_facts()),
+        Expr::Number(n) => Ok(number_facts(*n)),
+        Expr::Name(path) => Ok(name_facts(reader.sort_of(path))),
+        Expr::Neg(a) => Ok(negation_facts(boxed_facts(alloc, reader, a)?)),
+        Expr::Not(a) => Ok(denial_facts(boxed_facts(alloc, reader, a)?)),
+        Expr::Binary(op, a, b) => {
+            let left = boxed_facts(alloc, reader, a)?;
+            let right = boxed_facts(alloc, reader, b)?;
+            Ok(binary_facts(*op, left, right))
+        }
+        Expr::Within(a, choice) => {
+            let left = boxed_facts(alloc, reader, a)?;
+            within_facts(alloc, reader, left, choice)
+        }
+        Expr::Cases(branches) => cases_facts(alloc, reader, branches.as_slice()),
+        Expr::Next(a) => Ok(next_facts(boxed_facts(alloc, reader, a)?)),
+        Expr::Pick(choice) => pick_facts(alloc, reader, choice),
+    }
+}
+
+#[cycle(expressions)]
+fn boxed_facts<'t>(alloc: Global, reader: &Reader<'t>, e: &Boxed<Expr>) -> Result<Facts, NoMemory>
+    ensures { IfOk result (λ f. f ≡ spec.facts_of (readings.reads reader.now) e.now) }
+{
+    facts_of(alloc, reader, e.get())
+}
+
+#[cycle(expressions)]
+fn within_facts<'t>(
+    alloc: Global,
+    reader: &Reader<'t>,
+    left: Facts,
+    choice: &Choice,
+) -> Result<Facts, NoMemory>
+    ensures { IfOk result (λ f. f ≡ spec.within_offer left (spec.offer_of (readings.reads reader.now) choice.now)) }
+{
+    match choice {
+        Choice::Each(parts) => {
+            let found = list_facts(alloc, reader, parts.as_slice())?;
+            Ok(within_parts(left, found.as_slice()))
+        }
+        Choice::Between { low, high } => Ok(within_span(left, *low, *high)),
+    }
+}
+
+#[cycle(expressions)]
+fn pick_facts<'t>(alloc: Global, reader: &Reader<'t>, choice: &Choice) -> Result<Facts, NoMemory>
+    ensures { IfOk result (λ f. f ≡ spec.offered (spec.offer_of (readings.reads reader.now) choice.now)) }
+{
+    match choice {
+        Choice::Each(parts) => {
+            let found = list_facts(alloc, reader, parts.as_slice())?;
+            Ok(parts_facts(found.as_slice()))
+        }
+        Choice::Between { low, high } => Ok(span_facts(*low, *high)),
+    }
+}
+
+#[cycle(expressions)]
+fn list_facts<'t>(
+    alloc: Global,
+    reader: &Reader<'t>,
+    parts: &[Expr],
+) -> Result<List<Facts>, NoMemory>
+    ensures { IfOk result (λ found. found ≡ map (spec.facts_of (readings.reads reader.now)) parts.now) }
+{
+    let mut found = List::new(alloc);
+    for part in parts {
+        let facts = facts_of(alloc, reader, part)?;
+        found.push(facts)?;
+    }
+    Ok(found)
+}
+
+#[cycle(expressions)]
+fn cases_facts<'t>(
+    alloc: Global,
+    reader: &Reader<'t>,
+    branches: &[Branch],
+) -> Result<Facts, NoMemory>
+    ensures { IfOk result (λ f. f ≡ spec.cases (map (spec.guarded_of (readings.reads reader.now)) branches.now)) }
+{
+    let mut conditions = List::new(alloc);
+    let mut values = List::new(alloc);
+    for branch in branches {
+        let condition = facts_of(alloc, reader, &branch.cond)?;
+        conditions.push(condition)?;
+        let value = facts_of(alloc, reader, &branch.value)?;
+        values.push(value)?;
+    }
+    Ok(case_facts(conditions.as_slice(), values.as_slice()))
+}

@@ -1,0 +1,262 @@
+//! What is known of an expression, and whether it keeps the rules.
+
+ghost use Rattle.std.specs.Prelude.{◌≡◌, Some};
+ghost use Rattle.smv_kinds.specs.Facts as spec;
+
+use crate::sorts::{
+    Sort, beside, binary_sort, divides, has_kind, is_boolean, is_number, is_same_kind, is_small,
+    join_both, negated_sort, span_sort, truth_sort,
+};
+use smv_ast::Op;
+use sqlite_items::at;
+
+/// What is known of an expression.
+#[derive(Clone, Copy, Debug, Drop)]
+pub struct Facts {
+    /// Its kind, and of a number its interval; none where a name in it reads itself.
+    pub sort: Option<Sort>,
+    /// Whether it may stand where a truth value is needed.
+    pub fits: bool,
+    /// Whether no rule of kinds is broken in it.
+    pub kinds: bool,
+    /// Whether no interval in it passes the limit.
+    pub small: bool,
+    /// Whether the rule of `mod` is kept in it.
+    pub mods: bool,
+}
+
+/// An expression of this sort, over what is known of its parts.
+fn node(sort: Option<Sort>, fits: bool, kinds: bool, small: bool, mods: bool) -> Facts
+    ensures { result ≡ spec.node sort fits kinds small mods }
+{
+    Facts {
+        sort,
+        fits,
+        kinds: kinds && has_kind(sort),
+        small: small && is_small(sort),
+        mods,
+    }
+}
+
+/// `TRUE` or `FALSE`.
+pub fn truth_facts() -> Facts
+    ensures { result ≡ spec.truth_facts }
+{
+    node(Some(Sort::Boolean), true, true, true, true)
+}
+
+/// A numeral. `0` and `1` may stand where a truth value is needed.
+pub fn number_facts(n: u32) -> Facts
+    ensures { result ≡ spec.number_facts n }
+{
+    let number = i64::from(n);
+    node(Some(span_sort(number, number)), n <= 1, true, true, true)
+}
+
+/// A name of this sort. One that stands for 0 or 1 may not stand for a truth value.
+pub fn name_facts(sort: Option<Sort>) -> Facts
+    ensures { result ≡ spec.name_facts sort }
+{
+    node(sort, is_boolean(sort), true, true, true)
+}
+
+/// `-a`, of a number.
+pub fn negation_facts(a: Facts) -> Facts
+    ensures { result ≡ spec.negation_facts a }
+{
+    let kinds = a.kinds && is_number(a.sort);
+    node(negated_sort(a.sort), false, kinds, a.small, a.mods)
+}
+
+/// `!a`, of a truth value.
+pub fn denial_facts(a: Facts) -> Facts
+    ensures { result ≡ spec.denial_facts a }
+{
+    let kinds = a.kinds && a.fits;
+    node(truth_sort(a.sort), true, kinds, a.small, a.mods)
+}
+
+/// `next(a)`.
+pub fn next_facts(a: Facts) -> Facts
+    ensures { result ≡ spec.next_facts a }
+{
+    node(a.sort, is_boolean(a.sort), a.kinds, a.small, a.mods)
+}
+
+/// Whether an expression may stand for a value of this sort.
+pub fn suits(sort: Option<Sort>, a: Facts) -> bool
+    ensures { result ≡ spec.suits sort a }
+{
+    if is_boolean(sort) {
+        return a.fits;
+    }
+    is_same_kind(sort, a.sort)
+}
+
+/// Whether two expressions may be compared by `=`.
+fn agree(a: Facts, b: Facts) -> bool
+    ensures { result ≡ spec.agree a b }
+{
+    suits(a.sort, b) || suits(b.sort, a)
+}
+
+/// Whether an operator may stand between two expressions.
+fn binary_rule(op: Op, a: Facts, b: Facts) -> bool
+    ensures { result ≡ spec.binary_rule op a b }
+{
+    match op {
+        Op::Eq | Op::Ne => agree(a, b),
+        Op::And | Op::Or | Op::Xor | Op::Xnor | Op::Iff | Op::Implies => a.fits && b.fits,
+        _ => is_number(a.sort) && is_number(b.sort),
+    }
+}
+
+fn mod_rule(op: Op, a: Facts, b: Facts) -> bool
+    ensures { result ≡ spec.mod_rule op a b }
+{
+    match op {
+        Op::Mod => divides(a.sort, b.sort),
+        _ => true,
+    }
+}
+
+/// An operator between two expressions.
+pub fn binary_facts(op: Op, a: Facts, b: Facts) -> Facts
+    ensures { result ≡ spec.binary_facts op a b }
+{
+    let sort = binary_sort(op, a.sort, b.sort);
+    let kinds = a.kinds && b.kinds && binary_rule(op, a, b);
+    let mods = a.mods && b.mods && mod_rule(op, a, b);
+    node(sort, is_boolean(sort), kinds, a.small && b.small, mods)
+}
+
+/// What is known of one of these values.
+fn parts_sort(parts: &[Facts]) -> Option<Sort>
+    ensures { result ≡ spec.parts_sort parts.now }
+{
+    let mut sort = match at(parts, 0) {
+        Some(first) => first.sort,
+        None => Some(Sort::Nothing),
+    };
+    for part in parts {
+        sort = join_both(sort, part.sort);
+    }
+    sort
+}
+
+fn all_fit(parts: &[Facts]) -> bool
+    ensures { result ≡ spec.all_fit parts.now }
+{
+    for part in parts {
+        if !part.fits {
+            return false;
+        }
+    }
+    true
+}
+
+fn all_suit(sort: Option<Sort>, parts: &[Facts]) -> bool
+    ensures { result ≡ spec.all_suit sort parts.now }
+{
+    for part in parts {
+        if !suits(sort, *part) {
+            return false;
+        }
+    }
+    true
+}
+
+fn all_agree(a: Facts, parts: &[Facts]) -> bool
+    ensures { result ≡ spec.all_agree a parts.now }
+{
+    for part in parts {
+        if !agree(a, *part) {
+            return false;
+        }
+    }
+    true
+}
+
+fn all_kinds(parts: &[Facts]) -> bool
+    ensures { result ≡ spec.all_kinds parts.now }
+{
+    for part in parts {
+        if !part.kinds {
+            return false;
+        }
+    }
+    true
+}
+
+fn all_small(parts: &[Facts]) -> bool
+    ensures { result ≡ spec.all_small parts.now }
+{
+    for part in parts {
+        if !part.small {
+            return false;
+        }
+    }
+    true
+}
+
+fn all_mods(parts: &[Facts]) -> bool
+    ensures { result ≡ spec.all_mods parts.now }
+{
+    for part in parts {
+        if !part.mods {
+            return false;
+        }
+    }
+    true
+}
+
+/// A set of these values.
+pub fn parts_facts(parts: &[Facts]) -> Facts
+    ensures { result ≡ spec.parts_facts parts.now }
+{
+    let sort = parts_sort(parts);
+    let kinds = all_kinds(parts) && all_suit(sort, parts);
+    let fits = is_boolean(sort) || all_fit(parts);
+    node(sort, fits, kinds, all_small(parts), all_mods(parts))
+}
+
+/// The numbers from one up to another.
+pub fn span_facts(low: i64, high: i64) -> Facts
+    ensures { result ≡ spec.span_facts low high }
+{
+    node(Some(span_sort(low, high)), false, true, true, true)
+}
+
+/// A case with these conditions, over what is known of its values.
+pub fn case_facts(conditions: &[Facts], values: &[Facts]) -> Facts
+    ensures { result ≡ spec.case_facts conditions.now values.now }
+{
+    let made = parts_facts(values);
+    Facts {
+        sort: beside(parts_sort(conditions), made.sort),
+        fits: made.fits,
+        kinds: made.kinds && all_kinds(conditions) && all_fit(conditions),
+        small: made.small && all_small(conditions),
+        mods: made.mods && all_mods(conditions),
+    }
+}
+
+/// Whether a value is in a set.
+pub fn within_parts(a: Facts, parts: &[Facts]) -> Facts
+    ensures { result ≡ spec.within_parts a parts.now }
+{
+    let set = parts_facts(parts);
+    let kinds = a.kinds && set.kinds && all_agree(a, parts);
+    let small = a.small && set.small;
+    let sort = beside(a.sort, truth_sort(set.sort));
+    node(sort, true, kinds, small, a.mods && set.mods)
+}
+
+/// Whether a value is one of the numbers from one up to another.
+pub fn within_span(a: Facts, low: i64, high: i64) -> Facts
+    ensures { result ≡ spec.within_span a low high }
+{
+    let kinds = a.kinds && is_number(a.sort);
+    let small = a.small && is_small(Some(span_sort(low, high)));
+    node(truth_sort(a.sort), true, kinds, small, a.mods)
+}

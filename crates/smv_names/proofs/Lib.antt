@@ -1,0 +1,8 @@
+pub mod SetLemmas
+pub mod NumberLemmas
+pub mod TellLemmas
+pub mod EndLemmas
+pub mod SymbolLemmas
+pub mod KnownLemmas
+pub mod SizeLemmas
+pub mod KnownLaw

@@ -1,0 +1,7 @@
+pub mod Sets
+pub mod Duplicates
+pub mod Modules
+pub mod Recursion
+pub mod RecursionGrowing
+pub mod Unknown
+pub mod NamesFault

@@ -1,0 +1,46 @@
+-- Sets of names and of numbers that were seen.
+use Rattle.std.specs.Prelude.{Bool, false, ◌||◌, List, ℤ}
+use Rattle.std.specs.List.{fold}
+use Rattle.std.specs.Str.{bytes_eq}
+use Rattle.std.specs.Ordering.{int_eq}
+use Rattle.std.specs.HashSet.{HashSet, contains_by}
+use Rattle.std.specs.declared.hash.FoldHasher.{FoldHasher}
+use Rattle.std.specs.declared.hash.BuildHasherDefault.{BuildHasherDefault}
+use denote.Ref.{Bor}
+use Rattle.smv_meaning.specs.Value.{Name}
+
+-- a set of names that stand elsewhere
+abbrev pub NameSet : Type 0
+NameSet = HashSet (Bor Name) (BuildHasherDefault FoldHasher)
+
+-- whether the set has the name
+abbrev pub in_set : NameSet → Name → Bool
+in_set names name = contains_by (λ n. bytes_eq name n.now) names
+
+-- no name
+abbrev pub no_name : Name → Bool
+no_name name = false
+
+-- those names, and one more
+abbrev pub and_name : (Name → Bool) → Name → Name → Bool
+and_name seen name other = seen other || bytes_eq other name
+
+-- those names, and these
+abbrev pub and_names : (Name → Bool) → List Name → Name → Bool
+and_names = fold and_name
+
+-- a set of numbers
+abbrev pub NumberSet : Type 0
+NumberSet = HashSet ℤ (BuildHasherDefault FoldHasher)
+
+-- whether the set has the number
+abbrev pub has_number : NumberSet → ℤ → Bool
+has_number numbers n = contains_by (int_eq n) numbers
+
+-- no number
+abbrev pub no_number : ℤ → Bool
+no_number n = false
+
+-- those numbers, and one more
+abbrev pub and_number : (ℤ → Bool) → ℤ → ℤ → Bool
+and_number seen n other = seen other || int_eq other n

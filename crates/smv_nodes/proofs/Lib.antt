@@ -1,0 +1,4 @@
+pub mod OwnLemmas
+pub mod ReadLemmas
+pub mod CountLemmas
+pub mod SectionLemmas

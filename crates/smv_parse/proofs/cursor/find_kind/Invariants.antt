@@ -1,6 +1,0 @@
-use Rattle.std.proofs.Common.{◌≡◌, drop}
-use Rattle.smv_parse.specs.Language.{find_kind}
-use Rattle.smv_parse.proofs.cursor.find_kind.Given as goal
-
-abbrev pub invariant-loop-one : goal.invariant-loop-one
-invariant-loop-one g l = find_kind (drop l.one-index l.table) l.kind ≡ find_kind l.table l.kind

@@ -1,6 +1,0 @@
-use Rattle.std.proofs.Common.{◌≡◌, ◌≤◌, take}
-use Rattle.smv_parse.specs.Lexicon as spec
-use Rattle.smv_parse.proofs.numeral.numeral_value.Given as goal
-
-abbrev pub invariant-loop-digit : goal.invariant-loop-digit
-invariant-loop-digit l = (l.value ≡ spec.numeral_value (take l.digit-index l.digits)) × (l.value ≤ spec.greatest_number)

@@ -1,0 +1,7 @@
+pub mod Names
+pub mod Ranges
+pub mod Choices
+pub mod Nexts
+pub mod Rules
+pub mod Assigned
+pub mod Shape

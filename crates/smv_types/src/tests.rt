@@ -1,0 +1,136 @@
+//! Small models, with faults and numbers worked out by hand.
+
+use crate::{Typed, check};
+use smv_ast::{
+    Assignment, Boxed, Branch, Declaration, Declared, Definition, Expr, Fault, Left, List, Module,
+    NoMemory, Op, Path, Program, Section, SmvType, Span, Text,
+};
+use std::alloc::Global;
+use std::test::Fail;
+
+fn place(at: u32) -> Span {
+    Span { file: 0, at }
+}
+
+fn name(alloc: Global, word: &str) -> Result<Expr, NoMemory> {
+    let mut names = List::new(alloc);
+    names.push(Text::from_str(alloc, word)?)?;
+    Ok(Expr::Name(Path {
+        names,
+        at: place(0),
+    }))
+}
+
+fn beside(alloc: Global, op: Op, n: u32) -> Result<Expr, NoMemory> {
+    let x = name(alloc, "x")?;
+    Ok(Expr::Binary(
+        op,
+        Boxed::new(alloc, x)?,
+        Boxed::new(alloc, Expr::Number(n))?,
+    ))
+}
+
+fn main_of(alloc: Global, sections: List<Section>) -> Result<Program, NoMemory> {
+    let mut modules = List::new(alloc);
+    modules.push(Module {
+        name: Text::from_str(alloc, "main")?,
+        formals: List::new(alloc),
+        sections,
+        at: place(0),
+    })?;
+    Ok(Program { modules })
+}
+
+// `MODULE main DEFINE d := e; e := d;`.
+fn circle(alloc: Global) -> Result<Program, NoMemory> {
+    let mut definitions = List::new(alloc);
+    definitions.push(Definition {
+        name: Text::from_str(alloc, "d")?,
+        right: name(alloc, "e")?,
+        at: place(19),
+    })?;
+    definitions.push(Definition {
+        name: Text::from_str(alloc, "e")?,
+        right: name(alloc, "d")?,
+        at: place(27),
+    })?;
+    let mut sections = List::new(alloc);
+    sections.push(Section::Defines(definitions))?;
+    main_of(alloc, sections)
+}
+
+// `case x < 2 : x + 1; TRUE : x; esac`.
+fn stepped(alloc: Global) -> Result<Expr, NoMemory> {
+    let mut branches = List::new(alloc);
+    branches.push(Branch {
+        cond: beside(alloc, Op::Lt, 2)?,
+        value: beside(alloc, Op::Add, 1)?,
+    })?;
+    branches.push(Branch {
+        cond: Expr::True,
+        value: name(alloc, "x")?,
+    })?;
+    Ok(Expr::Cases(branches))
+}
+
+fn assigned(alloc: Global, left: Left, right: Expr) -> Result<Assignment, NoMemory> {
+    Ok(Assignment {
+        left,
+        name: Text::from_str(alloc, "x")?,
+        right,
+        at: place(0),
+    })
+}
+
+// A counter from 0 to 2, and that it does not pass 2.
+fn counter(alloc: Global) -> Result<Program, NoMemory> {
+    let mut variables = List::new(alloc);
+    variables.push(Declaration {
+        name: Text::from_str(alloc, "x")?,
+        what: Declared::Plain(SmvType::Range { low: 0, high: 3 }),
+        at: place(0),
+    })?;
+    let mut assignments = List::new(alloc);
+    assignments.push(assigned(alloc, Left::Init, Expr::Number(0))?)?;
+    assignments.push(assigned(alloc, Left::Next, stepped(alloc)?)?)?;
+    let mut sections = List::new(alloc);
+    sections.push(Section::Vars(variables))?;
+    sections.push(Section::Assigns(assignments))?;
+    sections.push(Section::InvarSpec(beside(alloc, Op::Le, 2)?, place(0)))?;
+    main_of(alloc, sections)
+}
+
+fn is_circle(answer: Result<Typed, Fault>) -> bool {
+    match answer {
+        Err(
+            Fault::CyclicDefine {
+                at: Some(at),
+                cycle,
+            },
+        ) => at == place(19) && cycle.is("d,e"),
+        _ => false,
+    }
+}
+
+#[test]
+fn circles(rt: HostRuntime) -> Result<(), Fail> {
+    let program = circle(rt.alloc())?;
+    assert!(rt; is_circle(check(rt.alloc(), &program)));
+    Ok(())
+}
+
+// The variable and the number of `init(x)` and an Eq; of `next(x)` the variable, two times a variable,
+// a number and an operator, a variable, a Choose and an Eq; of the spec a variable, a number and Le.
+#[test]
+fn counted(rt: HostRuntime) -> Result<(), Fail> {
+    let program = counter(rt.alloc())?;
+    let Ok(typed) = check(rt.alloc(), &program) else {
+        panic!(rt; "refused");
+    };
+    assert_eq!(rt; typed.nodes, 16);
+    let [main] = typed.instances.as_slice() else {
+        panic!(rt; "one instance");
+    };
+    assert!(rt; main.is("main"));
+    Ok(())
+}
