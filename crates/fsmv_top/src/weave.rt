@@ -151,7 +151,8 @@ fn integrate(alloc: Global, base: Program, feature: Feature, product: &str) -> R
 
 /// The canonical text of the product that the words name, or why there is none.
 ///
-/// The base is read and judged before the feature's file is opened. The file of the feature model is not opened.
+/// The base is read before the feature's file is opened; its names are asked once both are read, whether or not the
+/// product lists the feature. The file of the feature model is not opened.
 pub fn weave<F: Files>(alloc: Global, words: WeaveWords<'_>, files: &mut F) -> Result<String, Stop>
     requires base_allowed { IsTrue (F.may_read files.old words.base.now) }
     requires feature_allowed { IsTrue (F.may_read files.old words.feature.now) }
