@@ -125,7 +125,7 @@ fn row_circle(
     ensures { IfOk result (λ k. k ≡ held.row_circle tree.now graph.now row (entries_at tree.now.rows row)) }
 {
     match at(tree.rows.as_slice(), row).copied() {
-        Some(found) => names_circle(alloc, tree, graph, visits, heights, row, found.entries),
+        Some(found) => names_circle(alloc, tree, graph, visits, heights, row, found.entries()),
         None => Ok(None),
     }
 }

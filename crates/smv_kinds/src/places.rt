@@ -17,7 +17,6 @@ use crate::net::{Net, Reader};
 use crate::sorts::{Sort, type_sort};
 use smv_ast::{Expr, NoMemory, Text};
 use smv_meaning::entries::Meaning;
-use smv_meaning::scope::meaning_named;
 use smv_meaning::standing::told_of;
 use std::alloc::Global;
 
@@ -81,7 +80,7 @@ fn target_here<'t>(here: &Here<'t>, name: &str) -> Option<Sort>
     ensures { result ≡ readings.target_in (spec.program_of here.now) (spec.place_of here.now) name.now }
 {
     let rows = here.net.tree.rows.as_slice();
-    target_sort(meaning_named(rows[here.row].entries, name))
+    target_sort(rows[here.row].meaning_of(name))
 }
 
 /// Whether an expression may be assigned to a name.

@@ -14,7 +14,6 @@ use crate::sorts::{Sort, type_sort};
 use smv_ast::{Expr, List, NoMemory, Path, Program, Text};
 use smv_meaning::entries::Meaning;
 use smv_meaning::least::{Step, fill};
-use smv_meaning::scope::meaning_named;
 use smv_meaning::standing::leads;
 use smv_meaning::symbols::is_symbol;
 use smv_meaning::tree::{Meant, Tree};
@@ -74,7 +73,7 @@ pub fn row_variable(tree: &Tree, row: usize, name: &str) -> Sort
     ensures { result ≡ spec.row_variable tree.now (record { place = row; name = name.now }) }
 {
     match at(tree.rows.as_slice(), row).copied() {
-        Some(found) => variable_sort(meaning_named(found.entries, name)),
+        Some(found) => variable_sort(found.meaning_of(name)),
         None => Sort::Nothing,
     }
 }

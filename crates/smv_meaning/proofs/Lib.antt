@@ -1,4 +1,5 @@
 pub mod LeastLemmas
+pub mod NamesLemmas
 pub mod ScopeLemmas
 pub mod SenseLemmas
 pub mod TreeLemmas

@@ -14,9 +14,9 @@ use Rattle.smv_meaning.specs.declared.order.Waiting.{Waiting}
 use Rattle.smv_meaning.specs.Value.{Name, and_then}
 use Rattle.smv_meaning.specs.Paths.{Meant, IsVariable, IsInstance, IsDefine, IsFormal, IsNothing}
 use Rattle.smv_meaning.specs.Instances.{Meaning, Variable, Inner, Defined, Formal, Entry, Place, Main, Within, entries, module_at, meaning_at, inner_of, from_place, goes_deeper, formal_at, meant_in, actuals_of}
-use Rattle.smv_meaning.specs.Tree.{entries_at, placed, InRange, meant_seen}
+use Rattle.smv_meaning.specs.Tree.{row_names, entries_at, placed, InRange, meant_seen}
 use Rattle.smv_meaning.specs.Checking.{IsRight, stands, slot_in, inner_meant, inner_slot, AreRows, waits, waiting_places, AreWaiting}
-use Rattle.smv_meaning.proofs.TreeLemmas.{get_within, names_at, entries_at_index, length_seen}
+use Rattle.smv_meaning.proofs.TreeLemmas.{get_within, names_at, entries_at_index}
 use Rattle.smv_meaning.proofs.NumberLemmas.{get_at}
 
 pub flat_next : {A B : Type 0} (G : A → List B) (xs : List A) (k : ℕ) (x : A) → slice_get xs k ≡ Some x → flat_map G (drop k xs) ≡ G x ++ flat_map G (drop (k + 1) xs)
@@ -150,5 +150,5 @@ turn_shorter program tree ws popped new w f turn =
 pub rows_push : (tree : Tree) (old new : List ℕ) (row : ℕ) → new ≡ old ++ row ∷ [] → row < length tree.rows → AreRows tree old → AreRows tree new
 rows_push tree old new row e h rows = subst (AreRows tree) (sym e) (All-push (λ row. row < length tree.rows) old row rows h)
 
-pub count_is : (rows : List Row) (k : ℕ) (row : Row) → k < length rows → row ≡ get_or rows k row → length row.entries.now ≡ length (entries_at rows k)
-count_is rows k row h e = sym (length_seen row.entries.now) ∙ ap length (sym (entries_at_index rows k row h e))
+pub count_is : (rows : List Row) (k : ℕ) (row : Row) → k < length rows → row ≡ get_or rows k row → length (row_names row) ≡ length (entries_at rows k)
+count_is rows k row h e = ap length (sym (entries_at_index rows k row h e))

@@ -12,8 +12,8 @@ use Rattle.smv_meaning.specs.Value.{Name, and_then}
 use Rattle.smv_meaning.specs.Least.{known, least, most, entry}
 use Rattle.smv_meaning.specs.Paths.{Spot, behind, leads}
 use Rattle.smv_meaning.specs.declared.tree.Row.{Row}
-use Rattle.smv_meaning.specs.Entries.{first_place, all_seen}
-use Rattle.smv_meaning.specs.Tree.{entries_at, meant_seen}
+use Rattle.smv_meaning.specs.Entries.{first_place}
+use Rattle.smv_meaning.specs.Tree.{row_names, entries_at, meant_seen}
 use Rattle.smv_meaning.specs.Slots.{slot_of, spot_of, meant_in, by_slot, Maker, name_step, slot_step, HasSlots, stand_slots, TellsStanding, leads_to}
 use Rattle.smv_meaning.specs.declared.run.RunState.{RunState}
 use Rattle.smv_meaning.specs.Worth.{variable_at, worth_slots, TellsWorth}
@@ -60,7 +60,7 @@ pub slot_step_past : {A : Type 0} (tree : Tree) (make : Maker A) (s : ℕ → Op
 slot_step_past tree make s k h = ap (λ (x : Option Slot). and_then x (λ slot. make (by_slot tree s) (spot_of slot) (meant_seen slot.meant))) (slice_get_past tree.slots k h)
 
 -- the number of a slot lies within the slots
-pub slot_within : (tree : Tree) (place first k : ℕ) (name : Name) (row : Row) → HasSlots tree → slice_get tree.firsts place ≡ Some first → slice_get tree.rows place ≡ Some row → first_place name (all_seen row.entries.now) ≡ Some k → first + k < length tree.slots
+pub slot_within : (tree : Tree) (place first k : ℕ) (name : Name) (row : Row) → HasSlots tree → slice_get tree.firsts place ≡ Some first → slice_get tree.rows place ≡ Some row → first_place name (row_names row) ≡ Some k → first + k < length tree.slots
 slot_within tree place first k name row has f r p =
     let spot : Spot ℕ = record { place = place; name = name } in
     let is : slot_of tree spot ≡ Some (first + k) =

@@ -14,13 +14,14 @@ use Rattle.smv_meaning.specs.declared.tree.Slot.{Slot}
 use Rattle.smv_meaning.specs.Value.{Name}
 use Rattle.smv_meaning.specs.Paths.{Meant, IsVariable, IsInstance, IsDefine, IsFormal, IsNothing}
 use Rattle.smv_meaning.specs.declared.entries.Entry.{Entry as Held}
-use Rattle.smv_meaning.specs.Entries.{all_seen, seen, scope_of, scopes_of, entries_in, entries_found, meaning_among}
+use Rattle.smv_meaning.specs.Entries.{all_seen, seen, meaning_among}
+use Rattle.smv_meaning.specs.Scopes.{scope_of, scopes_of, entries_in, entries_found}
 use Rattle.smv_meaning.specs.Instances.{Meaning, Variable, Inner, Defined, Formal, Entry, Place, Main, Within, entries, module_at, or_empty, depth_of, goes_deeper, formal_by, formal_at, meant_in, actuals_of}
-use Rattle.smv_meaning.specs.Tree.{meant_seen, place_at, next_place, places, entries_at, placed, InRange, formal_in, meant_here, RightRow, RightRows, RightSlot, Extends, AddsSlot, RightUpTo, RightSlots, SlotsBehind, called_by}
+use Rattle.smv_meaning.specs.Tree.{meant_seen, place_at, next_place, places, row_names, entries_at, placed, InRange, formal_in, meant_here, RightRow, RightRows, RightSlot, Extends, AddsSlot, RightUpTo, RightSlots, SlotsBehind, called_by}
 
-pub entries_at_index : (rows : List Row) (k : ℕ) (row : Row) → k < length rows → row ≡ get_or rows k row → entries_at rows k ≡ all_seen row.entries.now
+pub entries_at_index : (rows : List Row) (k : ℕ) (row : Row) → k < length rows → row ≡ get_or rows k row → entries_at rows k ≡ row_names row
 entries_at_index [] k row h e = absurd (omega arith)
-entries_at_index (r ∷ rows) zero row h e = ap (λ (x : Row). all_seen x.entries.now) (sym e)
+entries_at_index (r ∷ rows) zero row h e = ap row_names (sym e)
 entries_at_index (r ∷ rows) (suc k) row h e = entries_at_index rows k row (omega arith) e
 
 -- ---- the places of rows
@@ -103,7 +104,7 @@ row_kept program rows more k row h r = record {
 
 -- a new row is right where its names and depth are those of the instance for which it stands
 pub record IsNew (program : Program) (rows : List Row) (row : Row) : Type 0 where
-  pub names : all_seen row.entries.now ≡ entries (module_at program (next_place (places rows) row.link))
+  pub names : row_names row ≡ entries (module_at program (next_place (places rows) row.link))
   pub depth : row.depth ≡ depth_of (next_place (places rows) row.link)
   pub outer : IfSome row.link (λ link. link.outer < length rows)
 
@@ -170,9 +171,9 @@ names_at program rows k right h =
     let r = row_at rows k h in
     at (slice_get rows k) r.0 r.1 (right k r.0 r.1).names
   where
-    at : (o : Option Row) (row : Row) → o ≡ Some row → all_seen row.entries.now ≡ entries (module_at program (place_at (places rows) k)) → elim o [ None ↦ [] | Some row ↦ all_seen row.entries.now ] ≡ entries (module_at program (place_at (places rows) k))
+    at : (o : Option Row) (row : Row) → o ≡ Some row → row_names row ≡ entries (module_at program (place_at (places rows) k)) → elim o [ None ↦ [] | Some row ↦ row_names row ] ≡ entries (module_at program (place_at (places rows) k))
     at None row e n = cc
-    at (Some row') row e n = ap (λ (x : Option Row). elim x [ None ↦ [] | Some row ↦ all_seen row.entries.now ]) e ∙ n
+    at (Some row') row e n = ap (λ (x : Option Row). elim x [ None ↦ [] | Some row ↦ row_names row ]) e ∙ n
 
 -- what a formal is by rows, it is by places
 formal_right : (program : Program) (rows : List Row) (link : Option Link) (k : ℕ) → RightRows program rows → IfSome link (λ l. l.outer < length rows) →
@@ -257,7 +258,7 @@ slot_right program rows r e slot x h n m right = record {
 
 -- the row of an instance that an instance declares
 pub child_new : (program : Program) (rows : List Row) (r : ℕ) (row child : Row) (link : Link) (name : Name) → RightRows program rows → slice_get rows r ≡ Some row → child.link ≡ Some link → link.outer ≡ r → child.depth ≡ row.depth + 1 →
-    all_seen child.entries.now ≡ entries_in (scopes_of program) name → name ≡ link.called.now → IsNew program rows child
+    row_names child ≡ entries_in (scopes_of program) name → name ≡ link.called.now → IsNew program rows child
 child_new program rows r row child link name right e c o d n g = record {
   names = n ∙ (ap (entries_in (scopes_of program)) g ∙ (entries_named_is program.modules link.called.now ∙ ap (λ p. entries (module_at program p)) (sym at)));
   depth = d ∙ (deep (right r row e).depth ∙ ap depth_of (sym at));
@@ -332,20 +333,16 @@ upto_more program rows rows' slots slots' r first es n e x a l g h right k e' be
 
 -- ---- all instances
 
-pub entries_at_get : (rows : List Row) (k : ℕ) (row : Row) → slice_get rows k ≡ Some row → entries_at rows k ≡ all_seen row.entries.now
-entries_at_get rows k row e = ap (λ (x : Option Row). elim x [ None ↦ [] | Some row ↦ all_seen row.entries.now ]) e
+pub entries_at_get : (rows : List Row) (k : ℕ) (row : Row) → slice_get rows k ≡ Some row → entries_at rows k ≡ row_names row
+entries_at_get rows k row e = ap (λ (x : Option Row). elim x [ None ↦ [] | Some row ↦ row_names row ]) e
 
 entries_at_kept : (rows more : List Row) (k : ℕ) → k < length rows → entries_at (rows ++ more) k ≡ entries_at rows k
 entries_at_kept rows more k h =
     let r = row_at rows k h in
     entries_at_get (rows ++ more) k r.0 (get_append rows more k r.0 r.1) ∙ sym (entries_at_get rows k r.0 r.1)
 
-pub length_seen : (es : List Held) → length (all_seen es) ≡ length es
-length_seen [] = refl
-length_seen (e ∷ es) = ap suc (length_seen es)
-
 pub slots_more : (program : Program) (rows rows' : List Row) (firsts : List ℕ) (slots slots' : List Slot) (row : Row) (n : ℕ) → Extends rows rows' → SlotsBehind n slots slots' → slice_get rows (length firsts) ≡ Some row →
-    RightUpTo program rows' slots' (length firsts) (length slots) (all_seen row.entries.now) (length row.entries.now) →
+    RightUpTo program rows' slots' (length firsts) (length slots) (row_names row) (length (row_names row)) →
     RightSlots program rows firsts slots → RightSlots program rows' (firsts ++ length slots ∷ []) slots'
 slots_more program rows rows' firsts slots slots' row n x s g here right r first e =
     elim (get_pushed firsts (length slots) r first e) [ inl h ↦ old h.0 h.1 | inr h ↦ new h.0 h.1 ]
@@ -361,13 +358,13 @@ slots_more program rows rows' firsts slots slots' row n x s g here right r first
     here' : RightUpTo program rows' slots' (length firsts) (length slots) (entries_at rows' (length firsts)) (length (entries_at rows' (length firsts)))
     here' =
         subst (λ (es : List Entry). RightUpTo program rows' slots' (length firsts) (length slots) es (length es)) (sym (names (length firsts) (get_within rows (length firsts) row g) ∙ entries_at_get rows (length firsts) row g))
-        (subst (λ (m : ℕ). RightUpTo program rows' slots' (length firsts) (length slots) (all_seen row.entries.now) m) (sym (length_seen row.entries.now)) here)
+        here
 
     new : r ≡ length firsts → length slots ≡ first → RightUpTo program rows' slots' r first (entries_at rows' r) (length (entries_at rows' r))
     new h f = subst (λ (x : ℕ). RightUpTo program rows' slots' x first (entries_at rows' x) (length (entries_at rows' x))) (sym h)
         (subst (λ (y : ℕ). RightUpTo program rows' slots' (length firsts) y (entries_at rows' (length firsts)) (length (entries_at rows' (length firsts)))) f here')
 
-pub main_new : (program : Program) (row : Row) → row.link ≡ None → row.depth ≡ 0 → all_seen row.entries.now ≡ entries_in (scopes_of program) (codes "main") → IsNew program [] row
+pub main_new : (program : Program) (row : Row) → row.link ≡ None → row.depth ≡ 0 → row_names row ≡ entries_in (scopes_of program) (codes "main") → IsNew program [] row
 main_new program row l d n = record {
   names = n ∙ (entries_named_is program.modules (codes "main") ∙ ap (λ (k : Option Link). entries (module_at program (next_place [] k))) (sym l));
   depth = d ∙ ap (λ (k : Option Link). depth_of (next_place [] k)) (sym l);

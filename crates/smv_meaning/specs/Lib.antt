@@ -1,4 +1,5 @@
-pub mod ByModule
+pub mod Places
+pub mod Scopes
 pub mod Value
 pub mod Least
 pub mod Paths

@@ -1,6 +1,7 @@
 -- The table of instances, and when it is right.
 use Rattle.std.specs.Prelude.{◌≡◌, ℕ, ◌+◌, ◌<◌, ◌≤◌, Bool, if◌then◌else◌, List, [], ◌∷◌, ◌++◌, length, Option, Some, None, slice_get, slice_index_or, IfSome}
 use Rattle.std.specs.List.{fold, flat_map}
+use Rattle.std.specs.Option.{option_copied}
 use Rattle.smv_ast.specs.declared.program.Program.{Program}
 use Rattle.smv_meaning.specs.declared.tree.Link.{Link}
 use Rattle.smv_meaning.specs.declared.tree.Row.{Row}
@@ -9,7 +10,8 @@ use Rattle.smv_meaning.specs.declared.tree.Meant.{Meant as HeldMeant}
 use Rattle.smv_meaning.specs.declared.tree.Meant.TheVariants as held
 use Rattle.smv_meaning.specs.Value.{Name}
 use Rattle.smv_meaning.specs.Paths.{Meant, IsVariable, IsInstance, IsDefine, IsFormal, IsNothing}
-use Rattle.smv_meaning.specs.Entries.{all_seen, meaning_among}
+use Rattle.smv_meaning.specs.Entries.{meaning_among}
+use Rattle.smv_meaning.specs.Scopes.{names_found}
 use Rattle.smv_meaning.specs.Instances.{Meaning, Inner, Entry, Place, Main, Within, entries, module_at, depth_of, formal_by, meant_by, meant_in, inner_of, instances}
 
 -- what a held meaning of a name says
@@ -33,10 +35,14 @@ next_place places (Some link) = Within (place_at places link.outer) link.name.no
 abbrev pub places : List Row → List Place
 places rows = fold (λ ps row. ps ++ next_place ps row.link ∷ []) [] rows
 
+-- the names of a row
+abbrev pub row_names : Row → List Entry
+row_names row = names_found (option_copied row.names)
+
 -- the names of a row, none where there is no row
 abbrev pub entries_of_row : Option Row → List Entry
 entries_of_row None = []
-entries_of_row (Some row) = all_seen row.entries.now
+entries_of_row (Some row) = row_names row
 
 -- the names of the row of a number
 abbrev pub entries_at : List Row → ℕ → List Entry
@@ -72,7 +78,7 @@ meant_here rows row deeper next m = meant_by deeper (λ called. next) (formal_in
 -- the row of a number is right: its names and its depth are those of its instance, which stands where its link says, and
 -- its outer instance comes before it
 pub record RightRow (program : Program) (rows : List Row) (k : ℕ) (row : Row) : Type 0 where
-  pub names : all_seen row.entries.now ≡ entries (module_at program (place_at (places rows) k))
+  pub names : row_names row ≡ entries (module_at program (place_at (places rows) k))
   pub depth : row.depth ≡ depth_of (place_at (places rows) k)
   pub outer : IfSome row.link (λ link. link.outer < k)
   pub stands : place_at (places rows) k ≡ next_place (places rows) row.link

@@ -7,7 +7,7 @@ ghost use Rattle.smv_meaning.specs.Runs as spec;
 ghost use Rattle.smv_meaning.specs.Checking as checking;
 ghost use Rattle.smv_meaning.specs.Items as items;
 ghost use Rattle.smv_meaning.specs.RunCheck as check;
-ghost use Rattle.smv_meaning.specs.Entries.{scope_seen, scopes_of as scopes_of_program};
+ghost use Rattle.smv_meaning.specs.Scopes.{scope_seen, scopes_of as scopes_of_program};
 ghost use Rattle.smv_meaning.specs.Slots as slots;
 ghost use Rattle.smv_meaning.specs.Worth as worth;
 

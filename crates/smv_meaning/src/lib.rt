@@ -7,6 +7,7 @@ pub mod evaluation;
 pub mod items;
 pub mod least;
 pub mod mentions;
+pub mod names;
 pub mod net;
 pub mod operators;
 pub mod order;

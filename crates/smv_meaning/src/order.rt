@@ -33,7 +33,7 @@ fn count_of(tree: &Tree, row: usize) -> usize
     ensures { result ≡ length (entries_at tree.now.rows row) }
 {
     let rows = tree.rows.as_slice();
-    rows[row].entries.len()
+    rows[row].entries().len()
 }
 
 /// An instance that is to be gone through, with all below it down to a depth.

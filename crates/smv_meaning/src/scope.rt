@@ -1,12 +1,13 @@
 //! The modules of a program with their names, looked up by name.
 
-ghost use Rattle.std.specs.Prelude.{◌≡◌, ℕ, List, [], IfOk, OnOk, map, length, ◌<◌, IfSome, Some, slice_get, if◌then◌else◌};
+ghost use Rattle.std.specs.Prelude.{◌≡◌, ℕ, List, [], IfOk, OnOk, map, length, Some, slice_get, if◌then◌else◌};
 ghost use Rattle.std.specs.Str.{bytes_eq};
-ghost use Rattle.smv_meaning.specs.ByModule.{names_found, names_by, TellsModules};
-ghost use Rattle.std.specs.Option.{option_map, option_copied};
-ghost use Rattle.smv_meaning.specs.Entries.{meaning_seen, all_seen, meaning_among, scope_seen, scopes_of as scopes_of_program, entries_in, first_place};
+ghost use Rattle.std.specs.Option.{option_copied};
+ghost use Rattle.smv_meaning.specs.Entries.{all_seen};
+ghost use Rattle.smv_meaning.specs.Scopes.{scope_seen, scopes_of as scopes_of_program, entries_in, names_found, scope_found, names_by, TellsModules};
 
-use crate::entries::{Entry, Meaning, entries_of};
+use crate::entries::Entry;
+use crate::names::Names;
 use smv_ast::{List, NoMemory, Program, Text};
 use sqlite_items::at;
 use std::alloc::Global;
@@ -16,7 +17,7 @@ use std::collections::HashMap;
 #[derive(Drop)]
 pub struct Scope<'a> {
     pub name: &'a Text,
-    pub entries: List<Entry<'a>>,
+    pub names: Names<'a>,
 }
 
 /// The modules of a program, in the order of the text.
@@ -25,10 +26,10 @@ pub fn scopes_of<'a>(alloc: Global, program: &'a Program) -> Result<List<Scope<'
 {
     let mut scopes = List::new(alloc);
     for owner in program.modules.as_slice() {
-        let entries = entries_of(alloc, owner)?;
+        let names = Names::of_module(alloc, owner)?;
         scopes.push(Scope {
             name: &owner.name,
-            entries,
+            names,
         })?;
     }
     Ok(scopes)
@@ -43,7 +44,7 @@ fn put<'a>(
 ) -> Result<(), NoMemory>
     requires { slice_get scopes.now k ≡ Some scope.now }
     ensures { OnOk result ((other : List ℕ) → names_by scopes.now numbers.new other
-        ≡ (if bytes_eq scope.now.name.now other then all_seen scope.now.entries else names_by scopes.now numbers.old other)) }
+        ≡ (if bytes_eq scope.now.name.now other then all_seen scope.now.names.entries else names_by scopes.now numbers.old other)) }
 {
     numbers.insert(scope.name.as_str(), k)?;
     Ok(())
@@ -72,7 +73,7 @@ fn scope_named<'s, 'a>(
     numbers: &HashMap<&'a str, usize>,
     name: &str,
 ) -> Option<&'s Scope<'a>>
-    ensures { names_found (option_copied result) ≡ names_by scopes.now numbers.now name.now }
+    ensures { scope_found (option_copied result) ≡ names_by scopes.now numbers.now name.now }
 {
     match numbers.get(name).copied() {
         Some(number) => at(scopes, number),
@@ -80,57 +81,34 @@ fn scope_named<'s, 'a>(
     }
 }
 
-fn no_names<'s, 'a>() -> &'s [Entry<'a>]
+/// The names of the first module of this name, if there is such a module.
+pub fn names_in<'s, 'a>(
+    scopes: &'s [Scope<'a>],
+    numbers: &HashMap<&'a str, usize>,
+    name: &str,
+) -> Option<&'s Names<'a>>
+    requires { TellsModules scopes.now numbers.now }
+    ensures { names_found (option_copied result) ≡ entries_in (map scope_seen scopes.now) name.now }
+{
+    match scope_named(scopes, numbers, name) {
+        Some(scope) => Some(&scope.names),
+        None => None,
+    }
+}
+
+fn no_entries<'s, 'a>() -> &'s [Entry<'a>]
     ensures { result.now ≡ [] }
 {
     &[]
 }
 
-/// The names of a module that was found; none where there is none.
-fn names_of<'s, 'a>(scope: Option<&'s Scope<'a>>) -> &'s [Entry<'a>]
-    ensures { all_seen result.now ≡ names_found (option_copied scope.entry) }
+/// The names that were found, one by one; none where there are none.
+pub fn entries_found<'s, 'a>(names: Option<&'s Names<'a>>) -> &'s [Entry<'a>]
+    ensures entries { all_seen result.now ≡ names_found (option_copied names.entry) }
+    ensures count { length result.now ≡ length (names_found (option_copied names.entry)) }
 {
-    let Some(scope) = scope else {
-        return no_names();
+    let Some(names) = names else {
+        return no_entries();
     };
-    scope.entries.as_slice()
-}
-
-/// The names of the first module of this name; none where there is no module.
-pub fn entries_named<'s, 'a>(
-    scopes: &'s [Scope<'a>],
-    numbers: &HashMap<&'a str, usize>,
-    name: &str,
-) -> &'s [Entry<'a>]
-    requires { TellsModules scopes.now numbers.now }
-    ensures { all_seen result.now ≡ entries_in (map scope_seen scopes.now) name.now }
-{
-    names_of(scope_named(scopes, numbers, name))
-}
-
-/// What a name stands for among these entries; the first of that name counts.
-pub fn meaning_named<'a>(entries: &[Entry<'a>], name: &str) -> Option<Meaning<'a>>
-    ensures { option_map meaning_seen result ≡ meaning_among (all_seen entries.now) name.now }
-{
-    for entry in entries {
-        if entry.name.as_str() == name {
-            return Some(entry.meaning);
-        }
-    }
-    None
-}
-
-/// Where the first of these entries with this name stands.
-pub fn place_of(entries: &[Entry], name: &str) -> Option<usize>
-    ensures place { result ≡ first_place name.now (all_seen entries.now) }
-    ensures within { IfSome result (λ k. k < length entries.now) }
-{
-    let mut place = 0;
-    for entry in entries {
-        if entry.name.as_str() == name {
-            return Some(place);
-        }
-        place += 1;
-    }
-    None
+    names.entries.as_slice()
 }

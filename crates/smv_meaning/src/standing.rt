@@ -8,7 +8,6 @@ ghost use Rattle.smv_meaning.specs.Slots as slots;
 ghost use Rattle.smv_meaning.specs.Tree.{meant_seen};
 
 use crate::least::{Step, fill};
-use crate::scope::place_of;
 use crate::tree::{Meant, Tree};
 use smv_ast::{Expr, List, NoMemory, Text};
 use sqlite_items::at;
@@ -25,7 +24,7 @@ pub fn slot_of(tree: &Tree, row: usize, name: &str) -> Option<usize>
     let Some(found) = at(tree.rows.as_slice(), row).copied() else {
         return None;
     };
-    match place_of(found.entries, name) {
+    match found.place_of(name) {
         Some(k) => {
             // Each name has a slot in memory, so its number fits.
             let count = tree.slots.len();

@@ -5,12 +5,13 @@ ghost use Rattle.std.specs.Option.{option_map, option_copied};
 ghost use Rattle.smv_ast.specs.declared.program.Program.{Program};
 ghost use Rattle.smv_meaning.specs.Value.{and_then};
 ghost use Rattle.smv_meaning.specs.Instances as spec;
-ghost use Rattle.smv_meaning.specs.Entries.{seen, all_seen, scope_seen, scopes_of, meaning_seen};
-ghost use Rattle.smv_meaning.specs.ByModule.{TellsModules};
+ghost use Rattle.smv_meaning.specs.Entries.{seen, all_seen, meaning_seen, meaning_among, first_place};
+ghost use Rattle.smv_meaning.specs.Scopes.{scope_seen, scopes_of, TellsModules};
 ghost use Rattle.smv_meaning.specs.Tree as tree;
 
 use crate::entries::{Entry, Meaning};
-use crate::scope::{Scope, entries_named, meaning_named, modules_by_name};
+use crate::names::Names;
+use crate::scope::{Scope, entries_found, modules_by_name, names_in};
 use smv_ast::{Expr, List, NoMemory, Program, Text};
 use sqlite_items::at;
 use std::alloc::Global;
@@ -25,13 +26,43 @@ pub struct Link<'a> {
     pub called: &'a Text,
 }
 
-/// An instance, with the names of its module. That of `main` has no link.
+/// An instance, with the names of its module, if there is one. That of `main` has no link.
 #[derive(Clone, Copy, Drop)]
 pub struct Row<'s, 'a> {
     pub link: Option<Link<'a>>,
-    pub entries: &'s [Entry<'a>],
+    pub names: Option<&'s Names<'a>>,
     /// How many instances stand around it.
     pub depth: usize,
+}
+
+impl<'s, 'a> Row<'s, 'a> {
+    /// The names of the instance, in the order of the text.
+    pub fn entries(&self) -> &'s [Entry<'a>]
+        ensures entries { all_seen result.now ≡ tree.row_names self.now }
+        ensures count { length result.now ≡ length (tree.row_names self.now) }
+    {
+        entries_found(self.names)
+    }
+
+    /// Where the first of its names that is this one stands.
+    pub fn place_of(&self, name: &str) -> Option<usize>
+        ensures { result ≡ first_place name.now (tree.row_names self.now) }
+    {
+        match self.names {
+            Some(names) => names.place_of(name),
+            None => None,
+        }
+    }
+
+    /// What a name stands for in it; the first of that name counts.
+    pub fn meaning_of(&self, name: &str) -> Option<Meaning<'a>>
+        ensures { option_map meaning_seen result ≡ meaning_among (tree.row_names self.now) name.now }
+    {
+        match self.names {
+            Some(names) => names.meaning_of(name),
+            None => None,
+        }
+    }
 }
 
 /// What a name of an instance is. Instances go by number.
@@ -73,8 +104,8 @@ fn formal_of<'s, 'a>(rows: &[Row<'s, 'a>], link: Link<'a>, k: usize) -> Meant<'a
     requires { link.outer < length rows.now }
     ensures { tree.meant_seen result ≡ tree.formal_linked rows.now link.entry k }
 {
-    let outer = rows[link.outer].entries;
-    formal_by(link.outer, meaning_named(outer, link.name.as_str()), k)
+    let outer = rows[link.outer];
+    formal_by(link.outer, outer.meaning_of(link.name.as_str()), k)
 }
 
 /// What a name of this meaning is in an instance. An instance that it declares is to have the number
@@ -160,7 +191,7 @@ fn grow<'s, 'a>(
     };
     rows.push(Row {
         link: Some(link),
-        entries: entries_named(scopes, numbers, called.as_str()),
+        names: names_in(scopes, numbers, called.as_str()),
         depth: row.depth + 1,
     })?;
     Ok(())
@@ -182,12 +213,13 @@ fn expand<'s, 'a>(
     requires row { slice_get rows.old r ≡ Some row }
     ensures extends { OnOk result (tree.Extends rows.old rows.new) }
     ensures rows { OnOk result (tree.RightRows program.now rows.new) }
-    ensures inner { OnOk result (tree.AddsInner program.now r (all_seen row.entry.entries.now) rows.old rows.new) }
-    ensures behind { OnOk result (tree.SlotsBehind (length row.entry.entries.now) slots.old slots.new) }
+    ensures inner { OnOk result (tree.AddsInner program.now r (tree.row_names row.entry) rows.old rows.new) }
+    ensures behind { OnOk result (tree.SlotsBehind (length (tree.row_names row.entry)) slots.old slots.new) }
     ensures slots { OnOk result (tree.RightUpTo program.now rows.new slots.new r (length slots.old)
-        (all_seen row.entry.entries.now) (length row.entry.entries.now)) }
+        (tree.row_names row.entry) (length (tree.row_names row.entry))) }
 {
-    for entry in row.entries {
+    let entries = row.entries();
+    for entry in entries {
         grow(program, scopes, numbers, rows, slots, r, row, *entry)?;
     }
     Ok(())
@@ -219,7 +251,7 @@ pub fn tree_of<'s, 'a>(
     let mut slots = List::new(alloc);
     rows.push(Row {
         link: None,
-        entries: entries_named(scopes, &numbers, "main"),
+        names: names_in(scopes, &numbers, "main"),
         depth: 0,
     })?;
     for r in 0..most {

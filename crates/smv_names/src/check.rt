@@ -2,9 +2,8 @@
 
 ghost use Rattle.std.specs.Prelude.{◌≡◌, map, length};
 ghost use Rattle.smv_meaning.specs.Faults.{TellsFirst};
-ghost use Rattle.smv_meaning.specs.ByModule.{TellsModules};
 ghost use Rattle.smv_meaning.specs.Checking as checking;
-ghost use Rattle.smv_meaning.specs.Entries.{scope_seen, scopes_of as scopes_of_program};
+ghost use Rattle.smv_meaning.specs.Scopes.{scope_seen, scopes_of as scopes_of_program, TellsModules};
 ghost use Rattle.smv_meaning.specs.Instances.{instances};
 ghost use Rattle.smv_meaning.specs.Runs.{first_some};
 ghost use Rattle.smv_meaning.specs.Slots as slots;

@@ -1,8 +1,8 @@
 //! Which paths are known in a module.
 
 ghost use Rattle.std.specs.Prelude.{◌≡◌, ◌↔◌, ◌<◌, ◌||◌, IfOk, IsTrue, length, map, is_some};
-ghost use Rattle.smv_meaning.specs.ByModule.{TellsModules};
-ghost use Rattle.smv_meaning.specs.Entries.{all_seen, scope_seen, scopes_of};
+ghost use Rattle.smv_meaning.specs.Entries.{all_seen};
+ghost use Rattle.smv_meaning.specs.Scopes.{scope_seen, scopes_of, TellsModules};
 ghost use Rattle.smv_meaning.specs.Instances.{called_at, meant_at};
 ghost use Rattle.smv_meaning.specs.Values.{is_symbol};
 ghost use Rattle.smv_meaning.specs.Paths.{leads as leads_to_declaration};
@@ -14,7 +14,7 @@ ghost use Rattle.smv_names.specs.Unknown as spec;
 use crate::sets::{no_names, see_name};
 use smv_ast::{NoMemory, Program, Text};
 use smv_meaning::entries::Entry;
-use smv_meaning::scope::{Scope, entries_named};
+use smv_meaning::scope::{Scope, entries_found, names_in};
 use smv_meaning::standing::leads;
 use smv_meaning::tree::{Link, Tree};
 use std::alloc::Global;
@@ -57,7 +57,7 @@ pub fn declared_in<'a>(
     requires numbers { TellsModules scopes.now numbers.now }
     ensures { IfOk result (λ names. in_set names ≡ spec.declared_in program.now module.now) }
 {
-    let names = names_of(alloc, entries_named(scopes, numbers, module))?;
+    let names = names_of(alloc, entries_found(names_in(scopes, numbers, module)))?;
     Ok(names)
 }
 

@@ -4,7 +4,7 @@ ghost use Rattle.std.specs.Prelude.{◌≡◌, ◌∷◌, [], IfOk, map};
 ghost use Rattle.std.specs.Option.{option_copied, option_map};
 ghost use Rattle.smv_meaning.specs.Mentions.{pointed};
 ghost use Rattle.smv_meaning.specs.Runs.{path_text};
-ghost use Rattle.smv_meaning.specs.Entries.{scope_seen, scopes_of as scopes_of_program};
+ghost use Rattle.smv_meaning.specs.Scopes.{scope_seen, scopes_of as scopes_of_program};
 ghost use Rattle.smv_meaning.specs.Checking.{IsRight};
 ghost use Rattle.smv_names.specs.Unknown as unknown;
 ghost use Rattle.fsmv_top.specs.UsedNames as spec;

@@ -1,5 +1,5 @@
 use Rattle.std.proofs.Common.{◌≡◌, ◌++◌, map, drop}
-use Rattle.smv_meaning.specs.Entries.{scope_seen, scope_of, scopes_of}
+use Rattle.smv_meaning.specs.Scopes.{scope_seen, scope_of, scopes_of}
 use Rattle.smv_meaning.proofs.scope.scopes_of.Given as goal
 
 abbrev pub invariant-loop-owner : goal.invariant-loop-owner

@@ -4,7 +4,8 @@ use Rattle.smv_meaning.specs.declared.tree.Row.{Row}
 use Rattle.smv_meaning.specs.declared.tree.Slot.{Slot}
 use Rattle.smv_meaning.specs.declared.tree.Link.{Link}
 use Rattle.smv_meaning.specs.declared.tree.Meant.TheVariants as held
-use Rattle.smv_meaning.specs.Entries.{seen, meaning_seen, entries_in}
+use Rattle.smv_meaning.specs.Entries.{seen, meaning_seen}
+use Rattle.smv_meaning.specs.Scopes.{entries_in}
 use Rattle.smv_meaning.specs.Tree.{meant_here}
 use Rattle.smv_meaning.specs.Paths.{IsInstance}
 use Rattle.smv_meaning.proofs.TreeLemmas.{outer_within, deeper_is, meant_alone, meant_instance, slot_right, child_new, rows_more, get_within}
@@ -29,16 +30,16 @@ returns-in_default-clause-slots c =
 pub returns-clause-rows : goal.returns-clause-rows
 returns-clause-rows c =
     let link : Link = record { outer = c.args.r; name = c.args.entry.name; called = c.in-Some.called } in
-    let child : Row = record { link = Some link; entries = c.entries_named.result; depth = c.args.row.depth + 1 } in
+    let child : Row = record { link = Some link; names = c.names_in.result; depth = c.args.row.depth + 1 } in
     let new = child_new c.args.program.now c.args.rows.now c.args.r c.args.row child link c.as_str.result.now c.requires.rows c.requires.row refl refl refl
-    (c.entries_named.ensures ∙ ap (λ scopes. entries_in scopes c.as_str.result.now) c.requires.scopes) c.as_str.ensures in
+    (c.names_in.ensures ∙ ap (λ scopes. entries_in scopes c.as_str.result.now) c.requires.scopes) c.as_str.ensures in
     rw c.in_ok-push-3.ensures.ok (rows_more c.args.program.now c.args.rows.now child c.requires.rows new)
 
 pub returns-clause-slots : goal.returns-clause-slots
 returns-clause-slots c =
     let deeper : Bool = nat_lt c.args.row.depth c.len.result in
     let link : Link = record { outer = c.args.r; name = c.args.entry.name; called = c.in-Some.called } in
-    let child : Row = record { link = Some link; entries = c.entries_named.result; depth = c.args.row.depth + 1 } in
+    let child : Row = record { link = Some link; names = c.names_in.result; depth = c.args.row.depth + 1 } in
     let slot : Slot = record { row = c.args.r; name = c.args.entry.name; meant = held.Instance c.len-2.result } in
     let is = meant_instance c.args.program.now c.args.rows.now c.args.r child link c.args.entry.name.now (meaning_seen c.args.entry.meaning) deeper (get_within c.args.rows.now c.args.r c.args.row c.requires.row)
     (deeper_is c.args.program.now c.args.rows.now c.args.r c.args.row c.len.result c.requires.rows c.requires.row c.len.ensures) refl refl refl (sym (ap option_copied c.in-Some.is) ∙ c.called_by.ensures.called) in
@@ -52,6 +53,6 @@ returns-in_default-clause-inner c =
 pub returns-clause-inner : goal.returns-clause-inner
 returns-clause-inner c =
     let link : Link = record { outer = c.args.r; name = c.args.entry.name; called = c.in-Some.called } in
-    let child : Row = record { link = Some link; entries = c.entries_named.result; depth = c.args.row.depth + 1 } in
+    let child : Row = record { link = Some link; names = c.names_in.result; depth = c.args.row.depth + 1 } in
     rw c.in_ok-push-3.ensures.ok (inner_one c.args.program.now c.args.rows.now c.args.r (seen c.args.entry) (nat_lt c.args.row.depth c.len.result) child link
     (deeper_is c.args.program.now c.args.rows.now c.args.r c.args.row c.len.result c.requires.rows c.requires.row c.len.ensures) refl refl refl (sym c.called_by.ensures.called ∙ ap option_copied c.in-Some.is))

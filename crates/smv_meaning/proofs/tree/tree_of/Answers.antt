@@ -1,16 +1,16 @@
 use Rattle.std.proofs.Common.{◌≡◌, ℕ, List, [], ◌++◌, ◌∷◌, length, sym, ap, ◌∙◌, subst, arith, refl, Some, None, codes, length-append}
 use Rattle.std.specs.Prelude.{slice_get}
 use Rattle.smv_meaning.specs.declared.tree.Row.{Row}
-use Rattle.smv_meaning.specs.Entries.{all_seen, entries_in}
-use Rattle.smv_meaning.specs.Tree.{RightSlots, RightUpTo, place_at, places}
+use Rattle.smv_meaning.specs.Scopes.{entries_in}
+use Rattle.smv_meaning.specs.Tree.{RightSlots, RightUpTo, row_names, place_at, places}
 use Rattle.smv_meaning.proofs.TreeLemmas.{main_new, rows_more, place_next, kept_place, get_none, slots_more, extends_length, get_within}
 use Rattle.smv_meaning.proofs.CountLemmas.{weight_main, weight_more, weight_none}
 use Rattle.smv_meaning.proofs.tree.tree_of.Goals as goal
 
 pub loop-r-init : goal.loop-r-init
 loop-r-init c =
-    let row : Row = record { link = None; entries = c.entries_named.result; depth = 0 } in
-    let new = main_new c.args.program.now row refl refl (c.entries_named.ensures ∙ ap (λ scopes. entries_in scopes (codes "main")) c.requires.scopes) in
+    let row : Row = record { link = None; names = c.names_in.result; depth = 0 } in
+    let new = main_new c.args.program.now row refl refl (c.names_in.ensures ∙ ap (λ scopes. entries_in scopes (codes "main")) c.requires.scopes) in
     let made : c.push.new.self ≡ row ∷ [] = c.in_ok-push.ensures.ok ∙ ap (λ (rows : List Row). rows ++ row ∷ []) c.new-rows.ensures in
     record {
       rows = rw made (rows_more c.args.program.now [] row (λ k r e. cc) new);
@@ -47,17 +47,17 @@ loop-r-preserved c =
     let at : slice_get c.loop-r.rows c.loop-r.r ≡ Some c.in-Some.row = rw c.as_slice.ensures at (sym c.at.ensures ∙ (sym c.copied.ensures ∙ c.in-Some.is)) in
     let count : length c.loop-r.firsts ≡ c.loop-r.r = c.loop-r.invariant.count in
     let x = c.in_ok-expand.ensures.extends in
-    let upto = subst (λ (n : ℕ). RightUpTo c.args.program.now c.expand.new.rows c.expand.new.slots n (length c.loop-r.slots) (all_seen c.in-Some.row.entries.now) (length c.in-Some.row.entries.now)) (sym count) c.in_ok-expand.ensures.slots in
+    let upto = subst (λ (n : ℕ). RightUpTo c.args.program.now c.expand.new.rows c.expand.new.slots n (length c.loop-r.slots) (row_names c.in-Some.row) (length (row_names c.in-Some.row))) (sym count) c.in_ok-expand.ensures.slots in
     let pushed : c.push-in-loop-r.new.self ≡ c.loop-r.firsts ++ length c.loop-r.slots ∷ [] = c.in_ok-push-2.ensures.ok ∙ ap (λ (n : ℕ). c.loop-r.firsts ++ n ∷ []) c.len.ensures in
     record {
       rows = c.in_ok-expand.ensures.rows;
       main = ap (λ (rows : List Row). place_at (places rows) 0) x.1 ∙ (kept_place c.loop-r.rows x.0 0 c.loop-r.invariant.some ∙ c.loop-r.invariant.main);
       some = omega (arith, extends_length c.loop-r.rows c.expand.new.rows x, c.loop-r.invariant.some);
       within = omega (arith, extends_length c.loop-r.rows c.expand.new.rows x, get_within c.loop-r.rows c.loop-r.r c.in-Some.row at);
-      weight = weight_more c.args.program.now c.loop-r.rows c.expand.new.rows c.loop-r.r (all_seen c.in-Some.row.entries.now) (get_within c.loop-r.rows c.loop-r.r c.in-Some.row at)
+      weight = weight_more c.args.program.now c.loop-r.rows c.expand.new.rows c.loop-r.r (row_names c.in-Some.row) (get_within c.loop-r.rows c.loop-r.r c.in-Some.row at)
           (c.loop-r.invariant.rows c.loop-r.r c.in-Some.row at).names c.in_ok-expand.ensures.inner c.loop-r.invariant.weight;
       count = omega (arith, ap length pushed, length-append c.loop-r.firsts (length c.loop-r.slots ∷ []), count);
       slots = subst (λ (firsts : List ℕ). RightSlots c.args.program.now c.expand.new.rows firsts c.expand.new.slots) (sym pushed)
-          (slots_more c.args.program.now c.loop-r.rows c.expand.new.rows c.loop-r.firsts c.loop-r.slots c.expand.new.slots c.in-Some.row (length c.in-Some.row.entries.now) x c.in_ok-expand.ensures.behind
+          (slots_more c.args.program.now c.loop-r.rows c.expand.new.rows c.loop-r.firsts c.loop-r.slots c.expand.new.slots c.in-Some.row (length (row_names c.in-Some.row)) x c.in_ok-expand.ensures.behind
           (subst (λ (n : ℕ). slice_get c.loop-r.rows n ≡ Some c.in-Some.row) (sym count) at) upto c.loop-r.invariant.slots);
     }

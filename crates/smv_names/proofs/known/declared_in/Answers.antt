@@ -1,5 +1,6 @@
 use Rattle.std.proofs.Common.{ap, ◌∙◌}
-use Rattle.smv_meaning.specs.Entries.{all_seen, entries_in}
+use Rattle.smv_meaning.specs.Entries.{all_seen}
+use Rattle.smv_meaning.specs.Scopes.{entries_in}
 use Rattle.smv_meaning.proofs.TreeLemmas.{entries_named_is}
 use Rattle.smv_names.specs.Sets.{in_set}
 use Rattle.smv_names.proofs.KnownLemmas.{declared_are}
@@ -7,5 +8,5 @@ use Rattle.smv_names.proofs.known.declared_in.Goals as goal
 
 pub returns : goal.returns
 returns c =
-    let names = c.entries_named.ensures ∙ (ap (λ scopes. entries_in scopes c.args.module.now) c.requires.scopes ∙ entries_named_is c.args.program.now.modules c.args.module.now) in
-    declared_are c.args.program.now c.args.module.now (all_seen c.entries_named.result.now) (in_set c.in_ok-names.names) names c.in_ok-names.ensures
+    let names = c.entries_found.ensures.entries ∙ (c.names_in.ensures ∙ (ap (λ scopes. entries_in scopes c.args.module.now) c.requires.scopes ∙ entries_named_is c.args.program.now.modules c.args.module.now)) in
+    declared_are c.args.program.now c.args.module.now (all_seen c.entries_found.result.now) (in_set c.in_ok-names.names) names c.in_ok-names.ensures
