@@ -1,7 +1,7 @@
 pub mod SetLemmas
 pub mod NumberLemmas
 pub mod TellLemmas
-pub mod EndLemmas
+pub mod RankLemmas
 pub mod SymbolLemmas
 pub mod KnownLemmas
 pub mod SizeLemmas

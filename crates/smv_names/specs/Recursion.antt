@@ -1,5 +1,5 @@
 -- Modules of which the instances lead back to them.
-use Rattle.std.specs.Prelude.{ℕ, suc, nat_eq, if◌then◌else◌, Bool, List, [], ◌∷◌, map, Option, Some, None, is_some, slice_get}
+use Rattle.std.specs.Prelude.{◌≡◌, ℕ, suc, ◌-◌, nat_eq, nat_lt, if◌then◌else◌, Bool, true, false, List, [], ◌∷◌, map, Option, Some, None, is_some, slice_get}
 use Rattle.std.specs.List.{flat_map}
 use Rattle.smv_ast.specs.declared.fault.Fault.{Fault}
 use Rattle.smv_ast.specs.declared.fault.Fault.TheVariants as fault
@@ -9,7 +9,6 @@ use Rattle.smv_ast.specs.declared.program.Section.{Section}
 use Rattle.smv_ast.specs.declared.program.Section.TheVariants as section
 use Rattle.smv_ast.specs.declared.program.Module.{Module}
 use Rattle.smv_ast.specs.declared.program.Program.{Program}
-use Rattle.smv_meaning.specs.Value.{and_then}
 use Rattle.smv_meaning.specs.Least.{least}
 use Rattle.smv_meaning.specs.Runs.{or_else, first_some}
 use Rattle.smv_names.specs.Modules.{number_of}
@@ -71,13 +70,26 @@ recursive_from graph k (m ∷ more) = or_else (recursive_at graph k m) (recursiv
 abbrev pub recursion_fault : Program → Option Fault
 recursion_fault program = recursive_from (graph program) 0 program.modules
 
--- ---- modules that come to an end
+-- ---- ranks: a module that has a higher one than those of its instances is not led back to
 
--- each of these is known to come to an end
-abbrev pub all_end : (ℕ → Option (Unit {0})) → List ℕ → Option (Unit {0})
-all_end told [] = Some tt
-all_end told (k ∷ more) = and_then (told k) (λ u. all_end told more)
+-- a rank, 0 where none is held
+abbrev pub rank_found : Option ℕ → ℕ
+rank_found None = 0
+rank_found (Some rank) = rank
 
--- a module comes to an end where those of all its instances do
-abbrev pub end_step : List (List ℕ) → (ℕ → Option (Unit {0})) → ℕ → Option (Unit {0})
-end_step graph told k = and_then (slice_get graph k) (all_end told)
+-- the rank of a module
+abbrev pub rank_of : List ℕ → ℕ → ℕ
+rank_of ranks k = rank_found (slice_get ranks k)
+
+-- none of these modules has a higher rank than this
+abbrev pub are_within : List ℕ → ℕ → List ℕ → Bool
+are_within ranks highest [] = true
+are_within ranks highest (k ∷ more) = if nat_lt highest (rank_of ranks k) then false else are_within ranks highest more
+
+-- no module has a lower rank than those of its instances
+abbrev pub AreRanks : List (List ℕ) → List ℕ → Type 0
+AreRanks graph ranks = (k : ℕ) → are_within ranks (rank_of ranks k) (calls_at (slice_get graph k)) ≡ true
+
+-- a module has a higher rank than those of its instances
+abbrev pub is_above : List (List ℕ) → List ℕ → ℕ → Bool
+is_above graph ranks k = if nat_eq (rank_of ranks k) 0 then false else are_within ranks (rank_of ranks k - 1) (calls_at (slice_get graph k))

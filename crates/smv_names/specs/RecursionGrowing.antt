@@ -2,9 +2,9 @@
 use Rattle.std.specs.Prelude.{ℕ, nat_eq, Bool, true, false, if◌then◌else◌, List, [], ◌∷◌, Option, Some, None, slice_get}
 use Rattle.std.proofs.Common.{refl}
 use Rattle.smv_meaning.specs.Least.{Under}
-use Rattle.smv_meaning.specs.Growing.{Le, then_le}
+use Rattle.smv_meaning.specs.Growing.{Le}
 use Rattle.smv_meaning.specs.Runs.{or_else, first_some}
-use Rattle.smv_names.specs.Recursion.{calls_at, leads_by, lead_step, all_end, end_step}
+use Rattle.smv_names.specs.Recursion.{calls_at, leads_by, lead_step}
 
 -- what is known of modules
 abbrev Told : Type 0
@@ -30,11 +30,3 @@ first_grows goal s t u (k ∷ ks) = or_le (leads_by goal s k) (leads_by goal t k
 -- more modules lead to the goal
 pub lead_grows : (graph : List (List ℕ)) (goal : ℕ) (s t : Told) → Under s t → Under (lead_step graph goal s) (lead_step graph goal t)
 lead_grows graph goal s t u k = first_grows goal s t u (calls_at (slice_get graph k))
-
-all_grow : (s t : Told) → Under s t → (ks : List ℕ) → Le (all_end s ks) (all_end t ks)
-all_grow s t u [] = λ a e. e
-all_grow s t u (k ∷ ks) = then_le (s k) (t k) (λ x. all_end s ks) (λ x. all_end t ks) (u k) (λ x. all_grow s t u ks)
-
--- more modules come to an end
-pub end_grows : (graph : List (List ℕ)) (s t : Told) → Under s t → Under (end_step graph s) (end_step graph t)
-end_grows graph s t u k = then_le (slice_get graph k) (slice_get graph k) (all_end s) (all_end t) (λ cs e. e) (all_grow s t u)

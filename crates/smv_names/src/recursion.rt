@@ -1,13 +1,13 @@
 //! Modules of which the instances lead back to them.
 
-ghost use Rattle.std.specs.Prelude.{◌≡◌, ◌++◌, ℕ, IfOk, OnOk, map};
+ghost use Rattle.std.specs.Prelude.{◌≡◌, ◌++◌, ℕ, IfOk, OnOk, IsTrue, map};
 ghost use Rattle.smv_meaning.specs.Faults.{TellsFirst};
-ghost use Rattle.smv_meaning.specs.Least.{entry, least};
+ghost use Rattle.smv_meaning.specs.Least.{entry};
 ghost use Rattle.smv_meaning.specs.Runs.{first_some};
 ghost use Rattle.smv_names.specs.Modules.{TellsNumbers};
 ghost use Rattle.smv_names.specs.Recursion as spec;
 
-use crate::visiting::visiting_order;
+use crate::visiting::{Visits, visit_all};
 use smv_ast::{Declared, Fault, List, Module, NoMemory, Program, Section};
 use smv_meaning::least::{Step, fill};
 use sqlite_items::at;
@@ -132,41 +132,58 @@ impl<'g> Step<()> for Leads<'g> {
     }
 }
 
-fn all_end(table: &[Option<()>], calls: &[usize]) -> Option<()>
-    ensures { result ≡ spec.all_end (entry table.now) calls.now }
+/// The rank of a module.
+fn rank_of(ranks: &[usize], k: usize) -> usize
+    ensures { result ≡ spec.rank_of ranks.now k }
+{
+    match at(ranks, k).copied() {
+        Some(rank) => rank,
+        None => 0,
+    }
+}
+
+/// Whether none of these modules has a higher rank than this.
+fn are_within(ranks: &[usize], most: usize, calls: &[usize]) -> bool
+    ensures { result ≡ spec.are_within ranks.now most calls.now }
 {
     for k in calls {
-        if told(table, *k).is_none() {
-            return None;
+        if most < rank_of(ranks, *k) {
+            return false;
         }
     }
-    Some(())
+    true
 }
 
-/// Which modules come to an end: they lead to no module that leads back to itself.
-#[derive(Drop)]
-struct Ends<'g> {
-    graph: &'g [List<usize>],
-}
-
-impl<'g> Step<()> for Ends<'g> {
-    ghost use Rattle.smv_names.specs.Recursion.{end_step};
-    ghost use Rattle.smv_names.specs.RecursionGrowing.{end_grows};
-
-    ghost step = { λ me. end_step me.graph.now };
-
-    ghost grows = { λ me. end_grows me.graph.now };
-
-    fn step(&self, _alloc: Global, table: &[Option<()>], k: usize) -> Result<Option<()>, NoMemory> {
-        match at(self.graph, k) {
-            Some(calls) => Ok(all_end(table, calls.as_slice())),
-            None => Ok(None),
+/// Whether no module has a lower rank than those of its instances.
+fn are_ranks(graph: &[List<usize>], ranks: &[usize]) -> bool
+    ensures { IsTrue result → spec.AreRanks graph.now ranks.now }
+{
+    let mut k = 0;
+    for calls in graph {
+        if !are_within(ranks, rank_of(ranks, k), calls.as_slice()) {
+            return false;
         }
+        k += 1;
+    }
+    true
+}
+
+/// Whether a module has a higher rank than those of its instances.
+fn is_above(graph: &[List<usize>], ranks: &[usize], k: usize) -> bool
+    ensures { result ≡ spec.is_above graph.now ranks.now k }
+{
+    let rank = rank_of(ranks, k);
+    if rank == 0 {
+        return false;
+    }
+    match at(graph, k) {
+        Some(calls) => are_within(ranks, rank - 1, calls.as_slice()),
+        None => true,
     }
 }
 
 /// Whether the instances of a module lead back to it.
-#[tactic(auto, using(crate::proofs::EndLemmas::lead_past))]
+#[tactic(auto, using(crate::proofs::RankLemmas::lead_past))]
 fn leads_back(
     alloc: Global,
     graph: &[List<usize>],
@@ -179,22 +196,23 @@ fn leads_back(
     Ok(told(table.as_slice(), k).is_some())
 }
 
-/// Refuses a module of which the instances lead back to it. Of one that comes to an end they don't.
+/// Refuses a module of which the instances lead back to it. One that has a higher rank than those of
+/// its instances is not asked: where no module has a lower one, nothing leads back to it.
 fn check_module(
     alloc: Global,
     graph: &[List<usize>],
-    order: &[usize],
-    ends: &[Option<()>],
+    visits: &Visits,
+    ranked: bool,
     k: usize,
     owner: &Module,
 ) -> Result<(), Fault>
-    requires { (k : ℕ) → entry ends.now k ≡ least (spec.end_step graph.now) k }
+    requires { IsTrue ranked → spec.AreRanks graph.now visits.now.ranks }
     ensures { TellsFirst (spec.recursive_at graph.now k owner.now) result }
 {
-    if told(ends, k).is_some() {
+    if ranked && is_above(graph, visits.ranks.as_slice(), k) {
         return Ok(());
     }
-    if leads_back(alloc, graph, order, k)? {
+    if leads_back(alloc, graph, visits.order.as_slice(), k)? {
         return Err(Fault::RecursiveModule {
             at: Some(owner.at),
             name: owner.name.try_clone(alloc)?,
@@ -203,15 +221,14 @@ fn check_module(
     Ok(())
 }
 
-#[tactic(auto, using(crate::proofs::EndLemmas::end_past))]
 fn check_graph(alloc: Global, graph: &[List<usize>], modules: &[Module]) -> Result<(), Fault>
     ensures { TellsFirst (spec.recursive_from graph.now 0 modules.now) result }
 {
-    let order = visiting_order(alloc, graph)?;
-    let ends = fill(alloc, &Ends { graph }, graph.len(), order.as_slice())?;
+    let visits = visit_all(alloc, graph)?;
+    let ranked = are_ranks(graph, visits.ranks.as_slice());
     let mut k = 0;
     for owner in modules {
-        check_module(alloc, graph, order.as_slice(), ends.as_slice(), k, owner)?;
+        check_module(alloc, graph, &visits, ranked, k, owner)?;
         k += 1;
     }
     Ok(())
