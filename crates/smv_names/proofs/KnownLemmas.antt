@@ -7,34 +7,23 @@ use Rattle.std.specs.Str.{bytes_eq}
 use Rattle.std.proofs.lemmas.Slice.Eq.{bytes_eq-Decides}
 use Rattle.smv_ast.specs.declared.program.Program.{Program}
 use Rattle.smv_meaning.specs.declared.tree.Tree.{Tree}
-use Rattle.smv_meaning.specs.declared.tree.Row.{Row}
 use Rattle.smv_meaning.specs.declared.tree.Slot.{Slot}
-use Rattle.smv_meaning.specs.declared.tree.Link.{Link}
 use Rattle.smv_meaning.specs.Value.{Name, and_then}
 use Rattle.smv_meaning.specs.Paths.{Standing, standing, leads, leads_by}
 use Rattle.smv_meaning.specs.Instances.{Place, Meaning, Entry, entries, called_at, module_named, module_at, what, meant_at, meant_in as placed_meant, instances}
 use Rattle.smv_meaning.specs.Values.{is_symbol}
-use Rattle.smv_meaning.specs.Tree.{next_place, places, meant_seen}
+use Rattle.smv_meaning.specs.Tree.{meant_seen}
 use Rattle.smv_meaning.specs.Slots.{slot_of, meant_in, leads_to}
 use Rattle.smv_meaning.specs.Checking.{IsRight, stands}
-use Rattle.smv_meaning.proofs.WorthLemmas.{get_item}
 use Rattle.smv_meaning.proofs.NumberLemmas.{spot_at, leads_same}
 use Rattle.smv_meaning.specs.Entries.{meaning_among}
 use mathlib.Core.Path.{fun_ext}
 use Rattle.std.proofs.Common.{map}
 use Rattle.smv_names.specs.Sets.{no_name, and_names}
 use Rattle.smv_names.proofs.SymbolLemmas.{entries_are}
-use Rattle.smv_names.specs.Unknown.{declared_in, leads_if_of, leads_in_each, has_meaning, called_by_link}
+use Rattle.smv_names.specs.Unknown.{declared_in, leads_if_of, leads_in_each, has_meaning}
 
 -- ---- instances by number
-
-called_next : (ps : List Place) (link : Option Link) → called_at (next_place ps link) ≡ called_by_link link
-called_next ps None = refl
-called_next ps (Some link) = refl
-
--- the module of the instance of a row
-pub called_is : (program : Program) (tree : Tree) (k : ℕ) (row : Row) → IsRight program tree → k < length tree.rows → row ≡ get_or tree.rows k row → called_at (stands tree k) ≡ called_by_link row.link
-called_is program tree k row right h e = ap called_at (right.rows k row (get_item tree.rows k row h e)).stands ∙ called_next (places tree.rows) row.link
 
 some_mapped : {A B : Type 0} (f : A → B) (o : Option A) → is_some (option_map f o) ≡ is_some o
 some_mapped f None = refl

@@ -3,6 +3,7 @@ pub mod NumberLemmas
 pub mod TellLemmas
 pub mod RankLemmas
 pub mod SymbolLemmas
+pub mod RowsLemmas
 pub mod KnownLemmas
 pub mod SizeLemmas
 pub mod KnownLaw

@@ -3,5 +3,6 @@ pub mod Duplicates
 pub mod Modules
 pub mod Recursion
 pub mod RecursionGrowing
+pub mod Rows
 pub mod Unknown
 pub mod NamesFault

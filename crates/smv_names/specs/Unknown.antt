@@ -1,7 +1,6 @@
 -- Paths that are neither known nor a symbol.
-use Rattle.std.specs.Prelude.{◌≡◌, ◌⊎◌, IsTrue, Bool, true, false, not, ◌&&◌, ◌||◌, if◌then◌else◌, List, [], ◌∷◌, Option, Some, None, is_some, map, codes}
+use Rattle.std.specs.Prelude.{◌≡◌, ◌⊎◌, IsTrue, Bool, true, false, not, ◌&&◌, ◌||◌, if◌then◌else◌, List, [], ◌∷◌, Option, Some, None, is_some}
 use Rattle.std.specs.List.{list_all, flat_map}
-use Rattle.std.specs.Str.{bytes_eq}
 use Rattle.smv_ast.specs.declared.fault.Fault.{Fault}
 use Rattle.smv_ast.specs.declared.fault.Fault.TheVariants as fault
 use Rattle.smv_ast.specs.declared.syntax.Span.{Span}
@@ -18,19 +17,19 @@ use Rattle.smv_ast.specs.declared.program.Section.{Section}
 use Rattle.smv_ast.specs.declared.program.Section.TheVariants as section
 use Rattle.smv_ast.specs.declared.program.Module.{Module}
 use Rattle.smv_ast.specs.declared.program.Program.{Program}
-use Rattle.smv_meaning.specs.declared.tree.Link.{Link}
 use Rattle.smv_meaning.specs.Value.{Name}
 use Rattle.smv_meaning.specs.Paths.{leads}
-use Rattle.smv_meaning.specs.Instances.{Place, called_at, module_named, what, instances, meant_at}
+use Rattle.smv_meaning.specs.Instances.{Place, module_named, what, instances, meant_at}
 use Rattle.smv_meaning.specs.Known.{IsKnown}
 use Rattle.smv_meaning.specs.Values.{is_symbol}
 use Rattle.smv_meaning.specs.Mentions.{paths_of}
 use Rattle.smv_meaning.specs.Runs.{or_else, first_some, path_text}
 use Rattle.smv_meaning.specs.Slots.{TellsStanding}
-use Rattle.smv_meaning.specs.Checking.{IsRight, AreRows, stands}
+use Rattle.smv_meaning.specs.Checking.{IsRight}
 use Rattle.smv_names.specs.Sets.{in_set}
+use Rattle.smv_names.specs.Rows.{is_of, AreRowsOf, TellsRows}
 use Rattle.smv_names.specs.declared.known.Knowledge.{Knowledge}
-use Rattle.smv_names.specs.declared.unknown.Sight.{Sight}
+use Rattle.smv_names.specs.declared.known.Sight.{Sight}
 
 -- ---- which paths are known
 
@@ -43,9 +42,13 @@ abbrev pub begins_in : Program → Name → List Name → Bool
 begins_in program called [] = true
 begins_in program called (name ∷ more) = declared_in program called name
 
+-- whether a path leads to a declaration in an instance
+abbrev pub leads_in : Program → List Name → Place → Bool
+leads_in program path place = is_some (leads (meant_at program) place path)
+
 -- whether a path leads to a declaration in an instance, if it is one of the module
 abbrev pub leads_if_of : Program → Name → List Name → Place → Bool
-leads_if_of program called path place = not (bytes_eq (called_at place) called) || is_some (leads (meant_at program) place path)
+leads_if_of program called path place = not (is_of called place) || leads_in program path place
 
 -- whether a path leads to a declaration in each instance of the module
 abbrev pub leads_in_each : Program → Name → List Name → Bool
@@ -119,27 +122,23 @@ unknown_name_fault program = first_some (unknown_within program) program.modules
 
 -- ---- as it is held
 
--- the module of an instance of this link
-abbrev pub called_by_link : Option Link → Name
-called_by_link None = codes "main"
-called_by_link (Some link) = link.called.now
-
--- what is held of a program is right: the table of its instances, their order, what names stand for, and the symbols
+-- what is held of a program is right: the table of its instances, what names stand for, the instances of each module, and
+-- the symbols
 pub record IsKnowledge (k : Knowledge) : Type 0 where
   pub right : IsRight k.program.now k.tree.now
   pub standing : TellsStanding k.tree.now k.standing.now
-  pub rows : AreRows k.tree.now k.order.now
-  pub order : map (stands k.tree.now) k.order.now ≡ instances k.program.now
+  pub rows : TellsRows k.program.now k.tree.now k.rows.now
   pub symbols : in_set k.symbols.now ≡ is_symbol k.program.now
 
 -- the program at which a module is looked at
 abbrev pub seen_program : Sight → Program
 seen_program s = s.known.now.program.now
 
--- what is held of the program is right, and the set has the names of the module
+-- what is held of the program is right, the set has the names of the module, and the numbers are those of its instances
 pub record IsSight (s : Sight) : Type 0 where
   pub known : IsKnowledge s.known.now
   pub declared : in_set s.declared.now ≡ declared_in (seen_program s) s.module.now
+  pub rows : AreRowsOf (seen_program s) s.known.now.tree.now s.module.now s.rows.now
 
 -- ---- the symbols in a row
 

@@ -13,14 +13,14 @@ ghost use Rattle.smv_names.specs.Unknown as unknown;
 
 use crate::arguments::check_arguments;
 use crate::duplicates::check_duplicates;
-use crate::known::{Knowledge, declared_in};
+use crate::known::{Knowledge, Sight, declared_in};
 use crate::numbers::numbers_of;
 use crate::recursion::check_recursion;
+use crate::rows::RowsByModule;
 use crate::symbols::symbols_of;
-use crate::unknown::{Sight, check_sections};
+use crate::unknown::check_sections;
 use crate::unknown_modules::check_known_modules;
 use smv_ast::{Fault, Module, Program};
-use smv_meaning::order::order_of;
 use smv_meaning::scope::{Scope, modules_by_name, scopes_of};
 use smv_meaning::standing::standing_of;
 use smv_meaning::tree::{Tree, tree_of};
@@ -53,11 +53,14 @@ fn check_module(
     requires numbers { TellsModules scopes.now numbers.now }
     ensures { TellsFirst (unknown.unknown_within known.now.program.now owner.now) result }
 {
-    let declared = declared_in(alloc, known.program, scopes, numbers, owner.name.as_str())?;
+    let name = owner.name.as_str();
+    let declared = declared_in(alloc, known.program, scopes, numbers, name)?;
+    let rows = known.rows.of_module(name);
     let sight = Sight {
         known,
         module: &owner.name,
         declared: &declared,
+        rows,
     };
     check_sections(alloc, &sight, owner.sections.as_slice())
 }
@@ -87,13 +90,13 @@ fn check_in_tree(
     ensures { TellsFirst (unknown.unknown_name_fault program.now) result }
 {
     let standing = standing_of(alloc, tree)?;
-    let order = order_of(alloc, program, tree)?;
+    let rows = RowsByModule::of_program(alloc, program, tree)?;
     let symbols = symbols_of(alloc, program)?;
     let known = Knowledge {
         program,
         tree,
         standing: standing.as_slice(),
-        order: order.as_slice(),
+        rows: &rows,
         symbols: &symbols,
     };
     check_known(alloc, &known, scopes)

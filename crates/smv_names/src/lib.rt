@@ -9,6 +9,7 @@ mod instances;
 pub mod known;
 mod numbers;
 mod recursion;
+pub mod rows;
 mod sets;
 mod stated;
 pub mod symbols;

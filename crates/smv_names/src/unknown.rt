@@ -7,14 +7,13 @@ ghost use Rattle.smv_meaning.specs.Runs.{first_some, path_text as joined_names};
 ghost use Rattle.smv_names.specs.Sets.{in_set};
 ghost use Rattle.smv_names.specs.Unknown as spec;
 
-use crate::known::{Knowledge, is_known};
+use crate::known::{Sight, is_known};
 use smv_ast::{
     Assignment, Declaration, Declared, Definition, Expr, Fault, NoMemory, Path, Section, Span,
     Text, print_joined,
 };
 use smv_meaning::mentions::push_paths;
 use std::alloc::Global;
-use std::collections::HashSet;
 
 /// The names of a path with dots between them.
 fn path_text(alloc: Global, path: &Path) -> Result<Text, NoMemory>
@@ -25,20 +24,12 @@ fn path_text(alloc: Global, path: &Path) -> Result<Text, NoMemory>
     Text::from_str(alloc, out.as_str())
 }
 
-/// A module, with what is held of the program and the names that the module declares.
-#[derive(Drop)]
-pub struct Sight<'p> {
-    pub known: &'p Knowledge<'p>,
-    pub module: &'p Text,
-    pub declared: &'p HashSet<&'p str>,
-}
-
 fn check_path(alloc: Global, sight: &Sight, path: &Path) -> Result<(), Fault>
     requires { spec.IsSight sight.now }
     ensures { TellsFirst (spec.unknown_path (spec.seen_program sight.now) sight.now.module.now path.now) result }
 {
     let names = path.names.as_slice();
-    if is_known(sight.known, sight.declared, sight.module.as_str(), names) {
+    if is_known(sight, names) {
         return Ok(());
     }
     Err(Fault::UnknownName {

@@ -11,13 +11,12 @@ ghost use Rattle.fsmv_top.specs.UsedNames as spec;
 
 use smv_ast::{Action, Change, Expr, NoMemory, Path, Program, Span, Text, print_joined};
 use smv_meaning::mentions::push_paths;
-use smv_meaning::order::order_of;
 use smv_meaning::scope::{Scope, modules_by_name, scopes_of};
 use smv_meaning::standing::standing_of;
 use smv_meaning::tree::{Tree, tree_of};
-use smv_names::known::{Knowledge, declared_in, is_known};
+use smv_names::known::{Knowledge, Sight, declared_in, is_known};
+use smv_names::rows::RowsByModule;
 use smv_names::symbols::symbols_of;
-use smv_names::unknown::Sight;
 use std::alloc::Global;
 
 /// A name that is used and not known, and its place.
@@ -43,12 +42,7 @@ fn is_known_in(sight: &Sight, path: &Path) -> bool
     requires { unknown.IsSight sight.now }
     ensures { result ≡ unknown.has_meaning (unknown.seen_program sight.now) sight.now.«module».now path.now.names }
 {
-    is_known(
-        sight.known,
-        sight.declared,
-        sight.module.as_str(),
-        path.names.as_slice(),
-    )
+    is_known(sight, path.names.as_slice())
 }
 
 fn text_of_path(alloc: Global, path: &Path) -> Result<Text, NoMemory>
@@ -186,21 +180,23 @@ fn missing_in_tree(
     ensures { IfOk result (λ found. found ≡ spec.first_missing program.now change.now) }
 {
     let standing = standing_of(alloc, tree)?;
-    let order = order_of(alloc, program, tree)?;
+    let rows_by_module = RowsByModule::of_program(alloc, program, tree)?;
     let symbols = symbols_of(alloc, program)?;
     let numbers = modules_by_name(alloc, scopes)?;
-    let declared = declared_in(alloc, program, scopes, &numbers, change.module.as_str())?;
+    let name = change.module.as_str();
+    let declared = declared_in(alloc, program, scopes, &numbers, name)?;
     let known = Knowledge {
         program,
         tree,
         standing: standing.as_slice(),
-        order: order.as_slice(),
+        rows: &rows_by_module,
         symbols: &symbols,
     };
     let sight = Sight {
         known: &known,
         module: &change.module,
         declared: &declared,
+        rows: rows_by_module.of_module(name),
     };
     missing_in_sight(alloc, &sight, change)
 }

@@ -1,6 +1,16 @@
-use Rattle.std.proofs.Common.{ap, ◌∙◌}
+use Rattle.std.proofs.Common.{sym, ap, ◌∙◌, subst}
+use Rattle.smv_names.specs.Rows.{AreRowsOf, rows_of}
 use Rattle.smv_names.specs.Unknown.{declared_in}
 use Rattle.smv_names.proofs.check.check_module.Goals as goal
 
 pub check_sections-requires : goal.check_sections-requires
-check_sections-requires c = record { known = c.requires.known; declared = c.in_ok-declared.ensures ∙ ap (declared_in c.args.known.now.program.now) c.as_str.ensures }
+check_sections-requires c =
+    let program = c.args.known.now.program.now in
+    let tree = c.args.known.now.tree.now in
+    let name = c.args.owner.now.name in
+    let told = c.of_module-rows.ensures ∙ ap (rows_of c.args.known.now.rows.now) c.as_str-name.ensures in
+    record {
+      known = c.requires.known;
+      declared = c.in_ok-declared.ensures ∙ ap (declared_in program) c.as_str-name.ensures;
+      rows = subst (AreRowsOf program tree name) (sym told) (c.requires.known.rows.of_each name);
+    }

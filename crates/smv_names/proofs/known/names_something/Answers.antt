@@ -5,6 +5,6 @@ use Rattle.smv_names.proofs.known.names_something.Goals as goal
 
 pub returns-else-contains : goal.returns-else-contains
 returns-else-contains c =
-    let not_declared = ap (in_set c.args.declared.now) (sym c.as_str.ensures) ∙ (sym c.contains.ensures ∙ c.if-contains.false) in
-    c.contains-else-contains.ensures ∙ (ap (in_set c.args.known.now.symbols.now) c.as_str-else-contains.ensures
-    ∙ (ap (λ has. has c.args.name.now) c.requires.known.symbols ∙ sym (ap (λ b. b || is_symbol c.args.known.now.program.now c.args.name.now) not_declared)))
+    let not_declared = ap (in_set c.args.sight.now.declared.now) (sym c.as_str.ensures) ∙ (sym c.contains.ensures ∙ c.if-contains.false) in
+    c.contains-else-contains.ensures ∙ (ap (in_set c.args.sight.now.known.now.symbols.now) c.as_str-else-contains.ensures
+    ∙ (ap (λ has. has c.args.name.now) c.requires.known.symbols ∙ sym (ap (λ b. b || is_symbol c.args.sight.now.known.now.program.now c.args.name.now) not_declared)))
