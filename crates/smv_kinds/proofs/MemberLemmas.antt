@@ -1,6 +1,6 @@
 -- Members of lists, and of the list of instances: what an instance declares is one, and so is its outer one.
 use Rattle.std.proofs.Common.{◌≡◌, ℕ, zero, suc, ◌+◌, ◌<◌, ◌⊎◌, inl, inr, Bool, true, false, cond, List, [], ◌∷◌, ◌++◌, length, map, Some, refl, sym, ap, ◌∙◌, subst, arith}
-use Rattle.std.specs.Prelude.{slice_get, find, nat_lt}
+use Rattle.std.specs.Prelude.{slice_get, filter, find, nat_lt}
 use Rattle.std.specs.List.{flat_map, Contains, All}
 use Rattle.std.specs.Str.{bytes_eq}
 use Rattle.std.proofs.lemmas.Slice.Eq.{bytes_eq-Decides}
@@ -55,6 +55,15 @@ in_flat f (z ∷ zs) x y (inr i) j = in_right (f z) (flat_map f zs) y (in_flat f
 pub from_flat : {A B : Type 0} (f : A → List B) (xs : List A) (y : B) → In y (flat_map f xs) → (x : A) × In x xs × In y (f x)
 from_flat f [] y i = absurd i
 from_flat f (x ∷ xs) y i = elim (in_either (f x) (flat_map f xs) y i) [ inl j ↦ (x, inl refl, j) | inr j ↦ let r = from_flat f xs y j in (r.0, inr r.1, r.2) ]
+
+pub from_filter : {A : Type 0} (test : A → Bool) (xs : List A) (x : A) → In x (filter test xs) → In x xs × (test x ≡ true)
+from_filter test [] x i = absurd i
+from_filter {A} test (y ∷ ys) x i = at (from_filter test ys x) (test y) refl i
+  where
+    at : (In x (filter test ys) → In x ys × (test x ≡ true)) → (b : Bool) → test y ≡ b → In x (cond b (y ∷ filter test ys) (filter test ys)) → In x (y ∷ ys) × (test x ≡ true)
+    at more true e (inl same) = (inl same, subst (λ (z : A). test z ≡ true) same e)
+    at more true e (inr j) = let r = more j in (inr r.0, r.1)
+    at more false e j = let r = more j in (inr r.0, r.1)
 
 pub in_get : {A : Type 0} (xs : List A) (k : ℕ) (x : A) → slice_get xs k ≡ Some x → In x xs
 in_get [] k x e = cc

@@ -1,5 +1,5 @@
 -- An expression that keeps the rules has a value of what is known of it, where its names have.
-use Rattle.std.proofs.Common.{◌≡◌, ℕ, zero, suc, Bool, true, false, ◌&&◌, ◌||◌, List, [], ◌∷◌, map, Option, Some, None, refl, sym, ap, ◌∙◌, subst, arith}
+use Rattle.std.proofs.Common.{◌≡◌, ℕ, zero, suc, Bool, true, false, ◌&&◌, ◌||◌, inl, inr, List, [], ◌∷◌, map, Option, Some, None, refl, sym, ap, ◌∙◌, subst, arith}
 use Rattle.std.specs.Prelude.{ℤ, pos, nat_le, int_le}
 use Rattle.std.specs.List.{fold, list_all}
 use Rattle.std.proofs.lemmas.Int.{ints}
@@ -8,19 +8,20 @@ use Rattle.smv_ast.specs.declared.syntax.Expr.{Expr, Expr-F, roll-Expr, fold-rol
 use Rattle.smv_ast.specs.declared.syntax.Choice.{Choice, Choice-F, roll-Choice, fold-roll-Choice, map-Choice}
 use Rattle.smv_ast.specs.declared.syntax.Branch.{Branch, Branch-F, roll-Branch, fold-roll-Branch}
 use Rattle.smv_meaning.specs.declared.value.Value.{Value}
-use Rattle.smv_meaning.specs.declared.value.Value.TheVariants.{Boolean as Truth, Number as Whole}
+use Rattle.smv_meaning.specs.declared.value.Value.TheVariants.{Boolean as Truth, Number as Whole, Symbol as Word}
 use Rattle.smv_meaning.specs.Value.{Name, and_then, of_both, truth, same, operate, negated, denied, in_range}
 use Rattle.smv_meaning.specs.Senses.{Reading, Valued, Allowed, Sense, BranchSense, single, parts_allow, taken, taken_in, holds_in, choice_sense, expr_sense, branch_sense, sense_of, choice_allows, branch_sense_of}
 use Rattle.smv_kinds.specs.declared.sorts.Sort.{Sort}
 use Rattle.smv_kinds.specs.declared.sorts.Sort.TheVariants.{Nothing}
 use Rattle.smv_kinds.specs.declared.facts.Facts.{Facts}
-use Rattle.smv_kinds.specs.Sorts.{is_boolean, is_number, has_kind, is_small, join, join_both, binary_sort, truth_sort, beside, negated_sort, span_sort}
-use Rattle.smv_kinds.specs.Facts.{truth_facts, number_facts, name_facts, negation_facts, denial_facts, next_facts, binary_facts, binary_rule, mod_rule, parts_sort, parts_facts, span_facts, case_facts, within_offer, all_kinds, all_small, all_mods, all_fit, all_suit, all_agree, Offer, Parts, Span, Guarded, Sorting, offered, choice_layer, expr_layer, branch_layer, facts_of, offer_of, guarded_of}
+use Rattle.smv_kinds.specs.Sorts.{is_boolean, has_kind, is_small, join, join_both, binary_sort, truth_sort, beside, span_sort}
+use Rattle.smv_kinds.specs.Facts.{truth_facts, number_facts, name_facts, negation_facts, denial_facts, next_facts, binary_facts, parts_sort, parts_facts, span_facts, case_facts, within_offer, all_kinds, all_fit, all_suit, Offer, Parts, Span, Guarded, Sorting, offered, choice_layer, expr_layer, branch_layer, facts_of, offer_of, guarded_of}
 use Rattle.smv_kinds.specs.Soundness.{IsTruth, FitsKnown, IsOf, Meets, IsKept, Allows, Shape, BranchShape, single_shape, choice_shape_layer, expr_shape_layer, branch_shape_layer, shape_of, choice_shape, branch_shape}
 use Rattle.smv_kinds.proofs.IntervalLemmas.{both_true}
 use Rattle.smv_kinds.proofs.ValueLemmas.{count_is, operator_makes, negation_makes, denial_makes, same_value}
 use Rattle.smv_kinds.proofs.TakenLemmas.{map_twice, takes_one, HasOne, some_mapped, all_twice}
-use Rattle.smv_kinds.proofs.PartLemmas.{Each, each_all, each_both, node_kept, as_boolean, part_of}
+use Rattle.smv_kinds.proofs.PartLemmas.{Each, each_all, each_both, node_kept, as_boolean, either_true, part_of}
+use Rattle.smv_kinds.proofs.KeptLemmas.{AllKept, first_kept, parts_kept, CaseKept, case_kept, negation_kept, denial_kept, next_kept, binary_kept, within_kept}
 
 -- ---- what is there
 
@@ -66,10 +67,6 @@ numeral_serves (suc (suc n)) e = absurd (grind arith)
 each_map : {A B : Type 0} (P : B → Type 0) (f : A → B) (xs : List A) → Each P (map f xs) → Each (λ x. P (f x)) xs
 each_map P f [] h = tt
 each_map P f (x ∷ xs) h = (h.0, each_map P f xs h.1)
-
-has_one : (fs : List Facts) → has_kind (parts_sort fs) ≡ true → HasOne fs
-has_one [] h = cc
-has_one (f ∷ fs) h = tt
 
 -- ---- expressions
 
@@ -120,6 +117,7 @@ module _ (on : Sorting) where
         record {
           total = λ v. (same v m.0, ap (λ (o : Option Value). and_then o (λ w. Some (same v w))) m.1);
           some = (m.0, m.2, ap (λ (o : Option Value). and_then o (λ w. Some (same m.0 w))) m.1 ∙ ap Some (same_value m.0));
+          each = λ v h. let e : Some (same v m.0) ≡ Some true = sym (ap (λ (o : Option Value). and_then o (λ w. Some (same v w))) m.1) ∙ h in (m.0, (cc), m.2);
         };
   }
 
@@ -130,23 +128,6 @@ module _ (on : Sorting) where
 
   abbrev shapes_from : List Exprs → List Shape
   shapes_from xs = map shape_of (map (λ x. x.0) xs)
-
-  record AllKept (fs : List Facts) : Type 0 where
-    kinds : all_kinds fs ≡ true
-    small : all_small fs ≡ true
-    mods : all_mods fs ≡ true
-
-  first_kept : (f : Facts) (fs : List Facts) → AllKept (f ∷ fs) → IsKept f × AllKept fs
-  first_kept f fs h =
-      let a = both_true f.kinds (all_kinds fs) h.kinds in
-      let b = both_true f.small (all_small fs) h.small in
-      let c = both_true f.mods (all_mods fs) h.mods in
-      (record { kinds = a.0; small = b.0; mods = c.0 }, record { kinds = a.1; small = b.1; mods = c.1 })
-
-  parts_kept : (fs : List Facts) → IsKept (parts_facts fs) → AllKept fs
-  parts_kept fs h =
-      let n = node_kept (parts_sort fs) (is_boolean (parts_sort fs) || all_fit fs) (all_kinds fs && all_suit (parts_sort fs) fs) (all_small fs) (all_mods fs) h in
-      record { kinds = (both_true (all_kinds fs) (all_suit (parts_sort fs) fs) n.kinds_kept).0; small = n.small_kept; mods = n.mods_kept }
 
   parts_total : (now after : Reading) → Agrees now → Agrees after → (xs : List Exprs) → AllKept (facts_from xs) → list_all (λ p. p.free) (shapes_from xs) ≡ true → (v : Value) → (b : Bool) × (parts_allow now after v (map sense_of (map (λ x. x.0) xs)) ≡ Some b)
   parts_total now after n a [] k s v = (false, refl)
@@ -174,6 +155,24 @@ module _ (on : Sorting) where
       let up = (part_of (facts_from (x ∷ xs)) k).0 in
       (w.0, up w.0 w.1, ap (λ (o : Option Bool). of_both (λ b c. Some (b || c)) o (parts_allow now after w.0 (map sense_of (map (λ x. x.0) xs)))) w.2 ∙ ap (of_both (λ b c. Some (b || c)) (Some true)) c.1)
 
+  -- a value that one of the parts allows is the same as one of what is known of all
+  parts_each : (now after : Reading) → Agrees now → Agrees after → (f : Facts) (xs : List Exprs) → Each (λ g. (w : Value) → IsOf g w → IsOf f w) (facts_from xs) → AllKept (facts_from xs) → list_all (λ p. p.free) (shapes_from xs) ≡ true →
+      (v : Value) → parts_allow now after v (map sense_of (map (λ x. x.0) xs)) ≡ Some true → (w : Value) × (same v w ≡ true) × IsOf f w
+  parts_each now after n a f [] up k s v h = cc
+  parts_each now after n a f (x ∷ xs) up k s v h =
+      let g = first_kept (facts_of on x.0) (facts_from xs) k in
+      let t = both_true (shape_of x.0).free (list_all (λ p. p.free) (shapes_from xs)) s in
+      let one = x.1.allows now after n a g.0 t.0 in
+      let b = one.total v in
+      let c = parts_total now after n a xs g.1 t.1 v in
+      let all = ap (λ (o : Option Bool). of_both (λ b c. Some (b || c)) o (parts_allow now after v (map sense_of (map (λ x. x.0) xs)))) b.1 ∙ ap (of_both (λ b c. Some (b || c)) (Some b.0)) c.1 in
+      let e : Some (b.0 || c.0) ≡ Some true = sym all ∙ h in
+      let some : b.0 || c.0 ≡ true = (cc) in
+      elim (either_true b.0 c.0 some) [
+        | inl i ↦ let w = one.each v (b.1 ∙ ap Some i) in (w.0, w.1, up.0 w.0 w.2)
+        | inr i ↦ parts_each now after n a f xs up.1 g.1 t.1 v (c.1 ∙ ap Some i)
+      ]
+
   -- the parts of a choice
   abbrev choice_from : Choice-F Choices Exprs Branches → Choice-F Choice Expr Branch
   choice_from = map-Choice Choices Exprs Branches Choice Expr Branch (λ c. c.0) (λ e. e.0) (λ b. b.0)
@@ -187,6 +186,15 @@ module _ (on : Sorting) where
   abbrev choice_senses : Choice-F Choice Expr Branch → Choice-F Allowed Sense BranchSense
   choice_senses = map-Choice Choice Expr Branch Allowed Sense BranchSense choice_allows sense_of branch_sense_of
 
+  span_each : (low high : ℤ) → is_small (Some (span_sort low high)) ≡ true → (v : Value) → in_range low high v ≡ true → (w : Value) × (same v w ≡ true) × IsOf (span_facts low high) w
+  span_each low high small (Whole m) h =
+      let b = both_true (int_le low m) (int_le m high) h in
+      let l = b.0 in
+      let k = b.1 in
+      (Whole m, same_value (Whole m), record { sort = (count_is low high m small (omega (arith, ints, l)) (omega (arith, ints, k))).0; serves = λ f. cc })
+  span_each low high small (Truth b) h = cc
+  span_each low high small (Word name) h = cc
+
   span_some : (low high : ℤ) → IsKept (span_facts low high) → int_le low high ≡ true → Allows (span_facts low high) (λ v. Some (in_range low high v))
   span_some low high k e =
       let n = node_kept (Some (span_sort low high)) false true true true k in
@@ -195,6 +203,7 @@ module _ (on : Sorting) where
       record {
         total = λ v. (in_range low high v, refl);
         some = (Whole low, record { sort = c.0; serves = λ f. cc }, ap Some (ap (λ (b : Bool). b && int_le low high) l ∙ e));
+        each = λ v h. span_each low high n.narrow v (cc);
       }
 
   choice_sound : (y : Choice-F Choices Exprs Branches) → SoundAsChoice (choice_layer (choice_facts (choice_from y))) (choice_shape_layer (choice_shapes (choice_from y))) (choice_sense (choice_senses (choice_from y)))
@@ -203,6 +212,7 @@ module _ (on : Sorting) where
     allows = λ now after n a k p. record {
       total = parts_total now after n a xs (parts_kept (facts_from xs) k) p;
       some = parts_some now after n a xs k p;
+      each = parts_each now after n a (parts_facts (facts_from xs)) xs (part_of (facts_from xs) k) (parts_kept (facts_from xs) k) p;
     };
   }
   choice_sound (Choice-F.Between low high) = record {
@@ -273,26 +283,11 @@ module _ (on : Sorting) where
     }
 
   -- what is known of a case is kept in its parts
-  record CaseKept (bs : List Branches) : Type 0 where
-    values_kept : IsKept (parts_facts (values bs))
-    conds_kept : AllKept (conds bs)
-    fit : all_fit (conds bs) ≡ true
-    one : HasOne bs
+  abbrev Parted : List Branches → Type 0
+  Parted bs = CaseKept (conds bs) (values bs)
 
-  case_kept : (bs : List Branches) → IsKept (case_facts (conds bs) (values bs)) → CaseKept bs
-  case_kept bs k =
-      let b = both_true ((parts_facts (values bs)).kinds && all_kinds (conds bs)) (all_fit (conds bs)) k.kinds in
-      let a = both_true (parts_facts (values bs)).kinds (all_kinds (conds bs)) b.0 in
-      let c = both_true (parts_facts (values bs)).small (all_small (conds bs)) k.small in
-      let d = both_true (parts_facts (values bs)).mods (all_mods (conds bs)) k.mods in
-      let e = both_true (all_kinds (values bs) && all_suit (parts_sort (values bs)) (values bs)) (has_kind (parts_sort (values bs))) a.0 in
-      let one : HasOne (values bs) = has_one (values bs) e.1 in
-      record {
-        values_kept = record { kinds = a.0; small = c.0; mods = d.0 };
-        conds_kept = record { kinds = a.1; small = c.1; mods = d.1 };
-        fit = b.1;
-        one = some_mapped (λ b. b.0) bs (some_mapped (guarded_of on) (map (λ b. b.0) bs) (some_mapped (λ g. g.value) (map (guarded_of on) (map (λ b. b.0) bs)) one));
-      }
+  one_of : (bs : List Branches) → HasOne (values bs) → HasOne bs
+  one_of bs h = some_mapped (λ b. b.0) bs (some_mapped (guarded_of on) (map (λ b. b.0) bs) (some_mapped (λ g. g.value) (map (guarded_of on) (map (λ b. b.0) bs)) h))
 
   -- a branch of a case that keeps the rules
   record Piece (f : Facts) (flag : BranchShape → Bool) (b : Branches) : Type 0 where
@@ -300,13 +295,13 @@ module _ (on : Sorting) where
     up : (v : Value) → IsOf (guarded_of on b.0).value v → IsOf f v
     flagged : flag (branch_shape b.0) ≡ true
 
-  ready_of : (bs : List Branches) → CaseKept bs → list_all (λ b. b.cond.plain) (branch_shapes bs) ≡ true → Each Ready bs
-  ready_of bs c s = ready bs c.conds_kept c.fit (parts_kept (values bs) c.values_kept) s
+  ready_of : (bs : List Branches) → Parted bs → list_all (λ b. b.cond.plain) (branch_shapes bs) ≡ true → Each Ready bs
+  ready_of bs c s = ready bs c.conds_kept c.fit (parts_kept (values bs) c.set) s
 
-  pieces : (flag : BranchShape → Bool) (bs : List Branches) → CaseKept bs → Each Ready bs → list_all flag (branch_shapes bs) ≡ true → Each (Piece (parts_facts (values bs)) flag) bs
+  pieces : (flag : BranchShape → Bool) (bs : List Branches) → Parted bs → Each Ready bs → list_all flag (branch_shapes bs) ≡ true → Each (Piece (parts_facts (values bs)) flag) bs
   pieces flag bs c r s =
       let f = parts_facts (values bs) in
-      let ups = each_map (λ g. (v : Value) → IsOf g.value v → IsOf f v) (guarded_of on) (map (λ b. b.0) bs) (each_map (λ x. (v : Value) → IsOf x v → IsOf f v) (λ g. g.value) (map (guarded_of on) (map (λ b. b.0) bs)) (part_of (values bs) c.values_kept)) in
+      let ups = each_map (λ g. (v : Value) → IsOf g.value v → IsOf f v) (guarded_of on) (map (λ b. b.0) bs) (each_map (λ x. (v : Value) → IsOf x v → IsOf f v) (λ g. g.value) (map (guarded_of on) (map (λ b. b.0) bs)) (part_of (values bs) c.set)) in
       let flags = each_map (λ s. flag s ≡ true) branch_shape (map (λ b. b.0) bs) (each_all flag (branch_shapes bs) s) in
       let both = each_both (λ b. (v : Value) → IsOf (guarded_of on b).value v → IsOf f v) (λ b. flag (branch_shape b) ≡ true) (λ b. ((v : Value) → IsOf (guarded_of on b).value v → IsOf f v) × (flag (branch_shape b) ≡ true)) (λ b x y. (x, y)) (map (λ b. b.0) bs) ups flags in
       each_both Ready (λ b. ((v : Value) → IsOf (guarded_of on b.0).value v → IsOf f v) × (flag (branch_shape b.0) ≡ true)) (Piece f flag) (λ b x y. record { is_ready = x; up = y.0; flagged = y.1 }) bs r (each_map (λ b. ((v : Value) → IsOf (guarded_of on b).value v → IsOf f v) × (flag (branch_shape b) ≡ true)) (λ b. b.0) bs both)
@@ -314,24 +309,25 @@ module _ (on : Sorting) where
   case_value : (now after : Reading) → Agrees now → Agrees after → (bs : List Branches) → IsKept (case_facts (conds bs) (values bs)) → list_all (λ b. b.cond.plain && b.value.plain) (branch_shapes bs) ≡ true →
       Meets (case_facts (conds bs) (values bs)) (and_then (taken_in now after (senses bs)) (λ s. s.value.value now after))
   case_value now after n a bs k p =
-      let c = case_kept bs k in
+      let c = case_kept (conds bs) (values bs) k in
       let s = all_twice (λ b. b.cond.plain) (λ b. b.value.plain) (branch_shapes bs) p in
       let r = ready_of bs c s.0 in
-      let t = taken_is now after n a (Piece (parts_facts (values bs)) (λ b. b.value.plain)) bs c.one r (pieces (λ b. b.value.plain) bs c r s.1) in
+      let t = taken_is now after n a (Piece (parts_facts (values bs)) (λ b. b.value.plain)) bs (one_of bs c.one) r (pieces (λ b. b.value.plain) bs c r s.1) in
       let m = t.0.1.value.value now after n a t.2.is_ready.value t.2.flagged in
       (m.0, ap (λ (o : Option BranchSense). and_then o (λ s. s.value.value now after)) t.1 ∙ m.1, lifted now after n a bs m.0 r (t.2.up m.0 m.2))
 
   case_allowed : (now after : Reading) → Agrees now → Agrees after → (bs : List Branches) → IsKept (case_facts (conds bs) (values bs)) → list_all (λ b. b.cond.plain && b.value.free) (branch_shapes bs) ≡ true →
       Allows (case_facts (conds bs) (values bs)) (λ v. and_then (taken_in now after (senses bs)) (λ s. s.value.allows now after v))
   case_allowed now after n a bs k p =
-      let c = case_kept bs k in
+      let c = case_kept (conds bs) (values bs) k in
       let s = all_twice (λ b. b.cond.plain) (λ b. b.value.free) (branch_shapes bs) p in
       let r = ready_of bs c s.0 in
-      let t = taken_is now after n a (Piece (parts_facts (values bs)) (λ b. b.value.free)) bs c.one r (pieces (λ b. b.value.free) bs c r s.1) in
+      let t = taken_is now after n a (Piece (parts_facts (values bs)) (λ b. b.value.free)) bs (one_of bs c.one) r (pieces (λ b. b.value.free) bs c r s.1) in
       let m = t.0.1.value.allows now after n a t.2.is_ready.value t.2.flagged in
       record {
         total = λ v. let x = m.total v in (x.0, ap (λ (o : Option BranchSense). and_then o (λ s. s.value.allows now after v)) t.1 ∙ x.1);
         some = (m.some.0, lifted now after n a bs m.some.0 r (t.2.up m.some.0 m.some.1), ap (λ (o : Option BranchSense). and_then o (λ s. s.value.allows now after m.some.0)) t.1 ∙ m.some.2);
+        each = λ v h. let x = m.each v (sym (ap (λ (o : Option BranchSense). and_then o (λ s. s.value.allows now after v)) t.1) ∙ h) in (x.0, x.1, lifted now after n a bs x.0 r (t.2.up x.0 x.2));
       }
 
   case_loose : (bs : List Branches) → list_all (λ b. b.cond.plain && b.value.plain) (branch_shapes bs) ≡ true → list_all (λ b. b.cond.plain && b.value.free) (branch_shapes bs) ≡ true
@@ -362,10 +358,6 @@ module _ (on : Sorting) where
   abbrev expr_senses : Expr-F Choice Expr Branch → Expr-F Allowed Sense BranchSense
   expr_senses = map-Expr Choice Expr Branch Allowed Sense BranchSense choice_allows sense_of branch_sense_of
 
-  -- what keeps the rules of a node, in its parts
-  part_kept : (x y : Bool) → x ≡ true → y ≡ true → x && y ≡ true
-  part_kept x y h k = rw (h, k) refl
-
   name_value : (now : Reading) → Agrees now → (path : List Name) → IsKept (name_facts (on path)) → Meets (name_facts (on path)) (now path)
   name_value now n path k =
       let d = node_kept (on path) (is_boolean (on path)) true true true k in
@@ -379,70 +371,46 @@ module _ (on : Sorting) where
 
   neg_value : (a : Facts) (o : Option Value) → IsKept (negation_facts a) → (IsKept a → Meets a o) → Meets (negation_facts a) (and_then o negated)
   neg_value a o k has =
-      let d = node_kept (negated_sort a.sort) false (a.kinds && is_number a.sort) a.small a.mods k in
-      let e = both_true a.kinds (is_number a.sort) d.kinds_kept in
-      let m = has (record { kinds = e.0; small = d.small_kept; mods = d.mods_kept }) in
-      let r = negation_makes a.sort m.0 e.1 d.narrow m.2.sort in
+      let d = negation_kept a k in
+      let m = has d.0 in
+      let r = negation_makes a.sort m.0 d.1 d.2 m.2.sort in
       (r.0, ap (λ (x : Option Value). and_then x negated) m.1 ∙ r.1, record { sort = r.2; serves = λ e. cc })
 
   not_value : (a : Facts) (o : Option Value) → IsKept (denial_facts a) → (IsKept a → Meets a o) → Meets (denial_facts a) (and_then o denied)
   not_value a o k has =
-      let d = node_kept (truth_sort a.sort) true (a.kinds && a.fits) a.small a.mods k in
-      let e = both_true a.kinds a.fits d.kinds_kept in
-      let m = has (record { kinds = e.0; small = d.small_kept; mods = d.mods_kept }) in
-      let r = denial_makes a m.0 e.1 m.2 in
+      let d = denial_kept a k in
+      let m = has d.0 in
+      let r = denial_makes a m.0 d.1 m.2 in
       (r.0, ap (λ (x : Option Value). and_then x denied) m.1 ∙ r.1, record { sort = r.2; serves = λ e. truth_serves a.sort r.0 r.2 })
 
   next_value : (a : Facts) (o : Option Value) → IsKept (next_facts a) → (IsKept a → Meets a o) → Meets (next_facts a) o
   next_value a o k has =
-      let d = node_kept a.sort (is_boolean a.sort) a.kinds a.small a.mods k in
-      let m = has (record { kinds = d.kinds_kept; small = d.small_kept; mods = d.mods_kept }) in
+      let m = has (next_kept a k) in
       (m.0, m.1, record { sort = m.2.sort; serves = λ e. as_boolean a.sort m.0 e m.2.sort })
 
   binary_value : (p : Op) (a b : Facts) (o q : Option Value) → IsKept (binary_facts p a b) → (IsKept a → Meets a o) → (IsKept b → Meets b q) → Meets (binary_facts p a b) (of_both (operate p) o q)
   binary_value p a b o q k has had =
-      let s = binary_sort p a.sort b.sort in
-      let d = node_kept s (is_boolean s) (a.kinds && b.kinds && binary_rule p a b) (a.small && b.small) (a.mods && b.mods && mod_rule p a b) k in
-      let e = both_true (a.kinds && b.kinds) (binary_rule p a b) d.kinds_kept in
-      let f = both_true a.kinds b.kinds e.0 in
-      let g = both_true a.small b.small d.small_kept in
-      let h = both_true (a.mods && b.mods) (mod_rule p a b) d.mods_kept in
-      let i = both_true a.mods b.mods h.0 in
-      let m = has (record { kinds = f.0; small = g.0; mods = i.0 }) in
-      let n = had (record { kinds = f.1; small = g.1; mods = i.1 }) in
-      let r = operator_makes p a b m.0 n.0 e.1 h.1 d.narrow m.2 n.2 in
-      (r.0, ap (λ (x : Option Value). of_both (operate p) x q) m.1 ∙ (ap (of_both (operate p) (Some m.0)) n.1 ∙ r.1), record { sort = r.2; serves = λ e. as_boolean s r.0 e r.2 })
+      let d = binary_kept p a b k in
+      let m = has d.left in
+      let n = had d.right in
+      let r = operator_makes p a b m.0 n.0 d.rule d.divides d.narrow m.2 n.2 in
+      (r.0, ap (λ (x : Option Value). of_both (operate p) x q) m.1 ∙ (ap (of_both (operate p) (Some m.0)) n.1 ∙ r.1), record { sort = r.2; serves = λ e. as_boolean (binary_sort p a.sort b.sort) r.0 e r.2 })
+
+  -- a truth value beside what is looked for in a choice
+  within_of : (a : Facts) (c : Offer) (v : Value) (b : Bool) → IsKept (offered c) → IsOf a v → IsOf (within_offer a c) (Truth b)
+  within_of a (Parts parts) v b k h =
+      let there = (both_true (all_kinds parts && all_suit (parts_sort parts) parts) (has_kind (parts_sort parts)) k.kinds).1 in
+      record { sort = beside_of a.sort (truth_sort (parts_sort parts)) v (Truth b) h.sort (truth_there (parts_sort parts) b there); serves = λ e. (b, refl) }
+  within_of a (Span low high) v b k h = record { sort = truth_of a.sort v b h.sort; serves = λ e. (b, refl) }
 
   -- a value and a choice that it is looked for in
   within_value : (a : Facts) (c : Offer) (o : Option Value) (al : Value → Option Bool) → IsKept (within_offer a c) → (IsKept a → Meets a o) → (IsKept (offered c) → (v : Value) → (b : Bool) × (al v ≡ Some b)) →
       Meets (within_offer a c) (and_then o (λ v. and_then (al v) (λ b. Some (Truth b))))
-  within_value a (Parts parts) o al k has had =
-      let set = parts_facts parts in
-      let s = beside a.sort (truth_sort set.sort) in
-      let d = node_kept s true (a.kinds && set.kinds && all_agree a parts) (a.small && set.small) (a.mods && set.mods) k in
-      let e = both_true (a.kinds && set.kinds) (all_agree a parts) d.kinds_kept in
-      let f = both_true a.kinds set.kinds e.0 in
-      let g = both_true a.small set.small d.small_kept in
-      let i = both_true a.mods set.mods d.mods_kept in
-      let set_kept : IsKept set = record { kinds = f.1; small = g.1; mods = i.1 } in
-      let m = has (record { kinds = f.0; small = g.0; mods = i.0 }) in
-      let b = had set_kept m.0 in
-      let there = (both_true (all_kinds parts && all_suit (parts_sort parts) parts) (has_kind (parts_sort parts)) f.1).1 in (
-        Truth b.0,
-        ap (λ (x : Option Value). and_then x (λ v. and_then (al v) (λ b. Some (Truth b)))) m.1 ∙ ap (λ (x : Option Bool). and_then x (λ b. Some (Truth b))) b.1,
-        record { sort = beside_of a.sort (truth_sort set.sort) m.0 (Truth b.0) m.2.sort (truth_there (parts_sort parts) b.0 there); serves = λ e. (b.0, refl) },
-      )
-  within_value a (Span low high) o al k has had =
-      let d = node_kept (truth_sort a.sort) true (a.kinds && is_number a.sort) (a.small && is_small (Some (span_sort low high))) a.mods k in
-      let e = both_true a.kinds (is_number a.sort) d.kinds_kept in
-      let g = both_true a.small (is_small (Some (span_sort low high))) d.small_kept in
-      let m = has (record { kinds = e.0; small = g.0; mods = d.mods_kept }) in
-      let span_kept : IsKept (span_facts low high) = record { kinds = refl; small = g.1; mods = refl } in
-      let b = had span_kept m.0 in (
-        Truth b.0,
-        ap (λ (x : Option Value). and_then x (λ v. and_then (al v) (λ b. Some (Truth b)))) m.1 ∙ ap (λ (x : Option Bool). and_then x (λ b. Some (Truth b))) b.1,
-        record { sort = truth_of a.sort m.0 b.0 m.2.sort; serves = λ e. (b.0, refl) },
-      )
+  within_value a c o al k has had =
+      let d = within_kept a c k in
+      let m = has d.0 in
+      let b = had d.1 m.0 in
+      (Truth b.0, ap (λ (x : Option Value). and_then x (λ v. and_then (al v) (λ b. Some (Truth b)))) m.1 ∙ ap (λ (x : Option Bool). and_then x (λ b. Some (Truth b))) b.1, within_of a c m.0 b.0 d.1 m.2)
 
   neg_sound : (a : Exprs) → SoundAs (negation_facts (facts_of on a.0)) (single_shape (shape_of a.0).plain) (single (λ now after. and_then ((sense_of a.0).value now after) negated))
   neg_sound a = alone _ _ _ (λ now after n u k p. neg_value (facts_of on a.0) ((sense_of a.0).value now after) k (λ x. a.1.value now after n u x p))

@@ -1,5 +1,6 @@
 -- Where no rule is broken, each name of each instance that has a kind stands for a value of its sort.
 use Rattle.std.proofs.Common.{◌≡◌, ℕ, zero, suc, ◌+◌, ◌-◌, ◌≤◌, ◌⊎◌, inl, inr, Bool, true, false, List, [], ◌∷◌, ◌++◌, Option, Some, None, Result, Ok, Err, IfOk, refl, sym, ap, ◌∙◌, subst, arith}
+use Rattle.std.specs.Prelude.{filter, not}
 use Rattle.std.specs.List.{Contains}
 use Rattle.std.specs.Option.{is_some}
 use Rattle.smv_ast.specs.declared.syntax.Path.{Path}
@@ -31,14 +32,20 @@ use Rattle.smv_kinds.specs.Readings.{Sorts, variable_sort, word_sort, symbol_sor
 use Rattle.smv_kinds.specs.Growing.{sort_of_grows}
 use Rattle.smv_kinds.specs.Asks.{Ask, Typed, Given, Assigned, Defined, Constrained, Item, actual_keeps, assignable}
 use Rattle.smv_kinds.specs.Rules.{keeps_in, kinds_fault}
-use Rattle.smv_kinds.specs.Soundness.{Fits, FitsKnown, IsKept, Meets, Allows, is_shaped, AreShaped, HasValues, IsSound, shape_of}
+use Rattle.smv_kinds.specs.Parts.{parts_below}
+use Rattle.smv_kinds.specs.Soundness.{Fits, FitsKnown, IsKept, Meets, Allows, is_shaped, AreShaped, HasValues, IsDefined, IsSound, shape_of, value_expressions}
 use Rattle.smv_kinds.proofs.IntervalLemmas.{both_true}
 use Rattle.smv_kinds.proofs.PartLemmas.{either_true}
 use Rattle.smv_kinds.proofs.SoundLemmas.{Agrees, sound}
 use Rattle.smv_kinds.proofs.SteadyLemmas.{steady}
 use Rattle.smv_kinds.proofs.TypeLemmas.{type_fits}
-use Rattle.smv_kinds.proofs.MemberLemmas.{In, in_of, all_in}
+use Rattle.smv_kinds.proofs.InnerLemmas.{Kept, part_kept}
+use Rattle.smv_kinds.proofs.MemberLemmas.{In, in_of, all_in, from_filter}
 use Rattle.smv_kinds.proofs.ItemLemmas.{items_at, define_item, variable_type, variable_in as variable_among, formal_outer, stood, then_some, leads_in, item_kept, item_shaped, all_true}
+
+not_both : (b : Bool) → not b ≡ true → b ≡ true → ⊥
+not_both true h k = cc
+not_both false h k = cc
 
 -- ---- what is known in fewer turns is known in more
 
@@ -281,37 +288,80 @@ module _ (program : Program) where
       mods : keeps_in program pass.Mods place a ≡ true
       shape : is_shaped a ≡ true
 
+    constraint_kept : (place : Place) (e : Expr) → Rules place (Constrained e) → IsKept (facts_in program place e)
+    constraint_kept place e r =
+        let k = both_true (facts_in program place e).kinds (facts_in program place e).fits r.kinds in
+        let m = both_true (facts_in program place e).small true r.small in
+        let n = both_true (facts_in program place e).mods true r.mods in
+        record { kinds = k.0; small = m.0; mods = n.0 }
+
+    abbrev IsKeptAt : Place → Expr → Type 0
+    IsKeptAt place = Kept (sorting_in program place)
+
+    plain_at : (place : Place) (e : Expr) → IsKept (facts_in program place e) → (shape_of e).plain ≡ true → IsKeptAt place e
+    plain_at place e k p = record { kept = k; free = (sound (sorting_in program place) e).loose p }
+
+    given_value : (place : Place) (actuals : List Expr) (e : Expr) → In e (filter (λ x. not (is_instance program place x)) actuals) → Rules place (Given actuals) → IsKeptAt place e
+    given_value place actuals e i r =
+        let f = from_filter (λ x. not (is_instance program place x)) actuals e i in
+        let c = given_kept place actuals e f.0 r.kinds r.small r.mods r.shape in
+        elim c.kinds [ inl g ↦ absurd (not_both (is_instance program place e) f.1 g) | inr g ↦ plain_at place e (record { kinds = g; small = c.small; mods = c.mods }) c.plain ]
+
+    -- the expressions of an item that stand for values keep the rules
+    value_kept : (place : Place) (a : Ask) (e : Expr) → Rules place a → In e (value_expressions (is_instance program place) a) → IsKeptAt place e
+    value_kept place (Typed type) e r i = absurd i
+    value_kept place (Given actuals) e r i = given_value place actuals e i r
+    value_kept place (Assigned name right) e r (inl same) =
+        let k = both_true (facts_in program place right).kinds (assignable (target_in program place name) (facts_in program place right)) r.kinds in
+        let m = both_true (facts_in program place right).small true r.small in
+        let n = both_true (facts_in program place right).mods true r.mods in
+        subst (IsKeptAt place) same (record { kept = record { kinds = k.0; small = m.0; mods = n.0 }; free = r.shape })
+    value_kept place (Assigned name right) e r (inr i) = absurd i
+    value_kept place (Defined right) e r (inl same) = subst (IsKeptAt place) same (plain_at place right (record { kinds = r.kinds; small = r.small; mods = r.mods }) r.shape)
+    value_kept place (Defined right) e r (inr i) = absurd i
+    value_kept place (Constrained x) e r (inl same) = subst (IsKeptAt place) same (plain_at place x (constraint_kept place x r) r.shape)
+    value_kept place (Constrained x) e r (inr i) = absurd i
+
     item_has : (place : Place) (a : Ask) (s t : State) → In place (instances program) → IsState program s → IsState program t → Rules place a → HasValues program place s t a
     item_has place (Typed type) s t i p q r = tt
     item_has place (Given actuals) s t i p q r = λ e k.
         let c = given_kept place actuals e (in_of actuals e k) r.kinds r.small r.mods r.shape in
         elim c.kinds [ inl f ↦ inl f | inr f ↦ inr (value_is place e s t i p q (record { kinds = f; small = c.small; mods = c.mods }) c.plain) ]
     item_has place (Assigned name right) s t i p q r =
-        let k = both_true (facts_in program place right).kinds (assignable (target_in program place name) (facts_in program place right)) r.kinds in
-        let m = both_true (facts_in program place right).small true r.small in
-        let n = both_true (facts_in program place right).mods true r.mods in
-        allows_is place right s t i p q (record { kinds = k.0; small = m.0; mods = n.0 }) r.shape
+        let k = value_kept place (Assigned name right) right r (inl refl) in
+        allows_is place right s t i p q k.kept k.free
     item_has place (Defined right) s t i p q r = value_is place right s t i p q (record { kinds = r.kinds; small = r.small; mods = r.mods }) r.shape
     item_has place (Constrained e) s t i p q r =
-        let k = both_true (facts_in program place e).kinds (facts_in program place e).fits r.kinds in
-        let m = both_true (facts_in program place e).small true r.small in
-        let n = both_true (facts_in program place e).mods true r.mods in
-        let v = value_is place e s t i p q (record { kinds = k.0; small = m.0; mods = n.0 }) r.shape in
-        let b = v.2.serves k.1 in
+        let v = value_is place e s t i p q (constraint_kept place e r) r.shape in
+        let b = v.2.serves (both_true (facts_in program place e).kinds (facts_in program place e).fits r.kinds).1 in
         (b.0, ap (λ (o : Option Value). and_then o truth) v.1 ∙ b.1)
 
-    -- each item of each instance has what it must in each two states
+    rules_kept : (place : Place) (item : Item) → In place (instances program) → In item (items_at program place) → Rules place item.ask
+    rules_kept place item i j = record {
+      kinds = item_kept program none pass.Kinds place item i j;
+      small = item_kept program none pass.Widths place item i j;
+      mods = item_kept program none pass.Mods place item i j;
+      shape = item_shaped program shaped place item i j;
+    }
+
+    defined : (place : Place) (e : Expr) (s t : State) → In place (instances program) → IsState program s → IsState program t → IsKeptAt place e → IsDefined program place s t e
+    defined place e s t i p q k = record {
+      kept = k.kept;
+      value = λ plain. value_is place e s t i p q k.kept plain;
+      allows = allows_is place e s t i p q k.kept k.free;
+    }
+
+    -- each item of each instance has what it must in each two states, and each expression in it is defined
     pub is_sound : IsSound program
     is_sound = record {
       items = λ place item s t i j p q.
           let k = in_of (instances program) place i in
-          let l = in_of (items_at program place) item j in
-          item_has place item.ask s t k p q (record {
-            kinds = item_kept program none pass.Kinds place item k l;
-            small = item_kept program none pass.Widths place item k l;
-            mods = item_kept program none pass.Mods place item k l;
-            shape = item_shaped program shaped place item k l;
-          });
+          item_has place item.ask s t k p q (rules_kept place item k (in_of (items_at program place) item j));
+      parts = λ place item e part s t i j v h p q.
+          let k = in_of (instances program) place i in
+          let exprs = value_expressions (is_instance program place) item.ask in
+          let r = value_kept place item.ask e (rules_kept place item k (in_of (items_at program place) item j)) (in_of exprs e v) in
+          defined place part s t k p q (part_kept (sorting_in program place) h.0 e part r (in_of (parts_below h.0 e) part h.1));
       value = λ place e s t i p q. value_is place e s t (in_of (instances program) place i) p q;
       allows = λ place e s t i p q. allows_is place e s t (in_of (instances program) place i) p q;
     }

@@ -1,6 +1,7 @@
 pub mod Intervals
 pub mod Sorts
 pub mod Facts
+pub mod Parts
 pub mod Readings
 pub mod Growing
 pub mod Asks

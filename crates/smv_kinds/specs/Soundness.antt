@@ -1,12 +1,12 @@
 -- What the rules give: an expression that keeps them has a value of its kind, within its interval and within the limit.
-use Rattle.std.specs.Prelude.{◌≡◌, Bool, true, false, ◌&&◌, ◌⊎◌, ℤ, int_le, ◌≤ℤ◌, Option, Some, None}
+use Rattle.std.specs.Prelude.{◌≡◌, Bool, true, false, not, ◌&&◌, ◌⊎◌, List, [], ◌∷◌, filter, ℤ, int_le, ◌≤ℤ◌, Option, Some, None}
 use Rattle.std.specs.List.{list_all, Contains}
 use Rattle.smv_ast.specs.declared.syntax.Expr.{Expr, fold-Expr, Expr-F}
 use Rattle.smv_ast.specs.declared.syntax.Choice.{Choice, fold-Choice, Choice-F}
 use Rattle.smv_ast.specs.declared.syntax.Branch.{Branch, fold-Branch, Branch-F}
 use Rattle.smv_meaning.specs.declared.value.Value.{Value}
 use Rattle.smv_meaning.specs.declared.value.Value.TheVariants.{Number as Whole, Symbol as Word}
-use Rattle.smv_meaning.specs.Value.{Name, and_then, truth}
+use Rattle.smv_meaning.specs.Value.{Name, and_then, truth, same}
 use Rattle.smv_ast.specs.declared.program.Program.{Program}
 use Rattle.smv_meaning.specs.Instances.{Place, module_at, instances}
 use Rattle.smv_meaning.specs.Values.{State, value_in, allows_in}
@@ -16,6 +16,7 @@ use Rattle.smv_kinds.specs.declared.sorts.Sort.{Sort}
 use Rattle.smv_kinds.specs.declared.sorts.Sort.TheVariants.{Boolean, Number, Symbol, Nothing}
 use Rattle.smv_kinds.specs.declared.facts.Facts.{Facts}
 use Rattle.smv_kinds.specs.Intervals.{is_within}
+use Rattle.smv_kinds.specs.Parts.{IsPart}
 use Rattle.smv_kinds.specs.Readings.{facts_in, is_instance}
 use Rattle.smv_kinds.specs.Asks.{Ask, Typed, Given, Assigned, Defined, Constrained, Item, all_items}
 
@@ -133,12 +134,14 @@ AreShaped program = list_all (λ place. list_all (λ item. is_shaped item.ask) (
 abbrev pub IsKeptIn : Program → Place → Expr → Type 0
 IsKeptIn program place e = IsKept (facts_in program place e)
 
--- what is allowed as a right side: of each value it is known, and one that is of what is known of the right side is
+-- what is allowed as a right side: of each value it is known whether it is allowed; one that is of what is known of the right
+-- side is; and each that is allowed is the same as one that is of what is known
 pub record Allows (f : Facts) (allows : Value → Option Bool) : Type 0 where
   pub total : (v : Value) → (b : Bool) × (allows v ≡ Some b)
   pub some : (v : Value) × IsOf f v × (allows v ≡ Some true)
+  pub each : (v : Value) → allows v ≡ Some true → (w : Value) × (same v w ≡ true) × IsOf f w
 
--- what an item has in an instance and two states: a constraint a truth value, the right side of an assignment a value that it
+-- what an item has in an instance and two states: a constraint a truth value, the right side of an assignment values that it
 -- allows, that of a DEFINE a value of its sort, and so each actual that stands for no instance
 abbrev pub HasValues : Program → Place → State → State → Ask → Type 0
 HasValues program place s t (Typed type) = Unit {0}
@@ -147,10 +150,28 @@ HasValues program place s t (Assigned name right) = Allows (facts_in program pla
 HasValues program place s t (Defined right) = Meets (facts_in program place right) (value_in program s t place right)
 HasValues program place s t (Constrained e) = (b : Bool) × (and_then (value_in program s t place e) truth ≡ Some b)
 
--- in each instance and each two states of a program each item has what it must, and each expression that keeps the rules has
--- a value of its sort, if it is no choice, and allows one as a right side
+-- the expressions of an item that stand for values: all but the actuals that stand for instances
+abbrev pub value_expressions : (Expr → Bool) → Ask → List Expr
+value_expressions stands (Typed type) = []
+value_expressions stands (Given actuals) = filter (λ e. not (stands e)) actuals
+value_expressions stands (Assigned name right) = right ∷ []
+value_expressions stands (Defined right) = right ∷ []
+value_expressions stands (Constrained e) = e ∷ []
+
+-- an expression that is defined in an instance and two states: it keeps the rules, it has a value of its sort, if it is no
+-- choice, and as a right side it allows some, all of its sort
+pub record IsDefined (program : Program) (place : Place) (s t : State) (e : Expr) : Type 0 where
+  pub kept : IsKeptIn program place e
+  pub value : (shape_of e).plain ≡ true → Meets (facts_in program place e) (value_in program s t place e)
+  pub allows : Allows (facts_in program place e) (allows_in program s t place e)
+
+-- in each instance and each two states of a program each item has what it must, each expression that stands in an item is
+-- defined, and any other that keeps the rules has a value of its sort, if it is no choice, and allows such values as a right
+-- side
 pub record IsSound (program : Program) : Type 0 where
   pub items : (place : Place) (item : Item) (s t : State) → Contains (instances program) place → Contains (all_items (module_at program place).sections) item → IsState program s → IsState program t → HasValues program place s t item.ask
+  pub parts : (place : Place) (item : Item) (e part : Expr) (s t : State) → Contains (instances program) place → Contains (all_items (module_at program place).sections) item →
+      Contains (value_expressions (is_instance program place) item.ask) e → IsPart e part → IsState program s → IsState program t → IsDefined program place s t part
   pub value : (place : Place) (e : Expr) (s t : State) → Contains (instances program) place → IsState program s → IsState program t → IsKeptIn program place e → (shape_of e).plain ≡ true →
       Meets (facts_in program place e) (value_in program s t place e)
   pub allows : (place : Place) (e : Expr) (s t : State) → Contains (instances program) place → IsState program s → IsState program t → IsKeptIn program place e → (shape_of e).free ≡ true →

@@ -27,11 +27,16 @@ fn compared(alloc: Global, op: Op, n: u32) -> Result<Expr, NoMemory> {
     Ok(Expr::Binary(op, left, Boxed::new(alloc, Expr::Number(n))?))
 }
 
-// `case x < 2 : x + 1; TRUE : {0, 2}; esac`.
-fn right_side(alloc: Global) -> Result<Expr, NoMemory> {
+// `{0, 2}`.
+fn zero_or_two(alloc: Global) -> Result<Expr, NoMemory> {
     let mut parts = List::new(alloc);
     parts.push(Expr::Number(0))?;
     parts.push(Expr::Number(2))?;
+    Ok(Expr::Pick(Choice::Each(parts)))
+}
+
+// `case x < 2 : x + 1; TRUE : last; esac`.
+fn right_side(alloc: Global, last: Expr) -> Result<Expr, NoMemory> {
     let mut branches = List::new(alloc);
     branches.push(Branch {
         cond: compared(alloc, Op::Lt, 2)?,
@@ -39,13 +44,13 @@ fn right_side(alloc: Global) -> Result<Expr, NoMemory> {
     })?;
     branches.push(Branch {
         cond: Expr::True,
-        value: Expr::Pick(Choice::Each(parts)),
+        value: last,
     })?;
     Ok(Expr::Cases(branches))
 }
 
 // `MODULE main VAR x : 0..3; ASSIGN init(x) := 0; next(x) := case .. esac;`.
-fn counter(alloc: Global) -> Result<Program, NoMemory> {
+fn counter(alloc: Global, last: Expr) -> Result<Program, NoMemory> {
     let mut declarations = List::new(alloc);
     declarations.push(Declaration {
         name: Text::from_str(alloc, "x")?,
@@ -62,7 +67,7 @@ fn counter(alloc: Global) -> Result<Program, NoMemory> {
     assignments.push(Assignment {
         left: Left::Next,
         name: Text::from_str(alloc, "x")?,
-        right: right_side(alloc)?,
+        right: right_side(alloc, last)?,
         at: place(49),
     })?;
     let mut sections = List::new(alloc);
@@ -98,9 +103,9 @@ fn run(alloc: Global, xs: &[i64]) -> Result<Run, NoMemory> {
 #[test]
 fn runs_of_a_counter(rt: HostRuntime) -> Result<(), Fail> {
     let alloc = rt.alloc();
-    let program = counter(alloc)?;
-    let walk = run(alloc, &[0, 1, 2, 0])?;
-    assert_eq!(rt; walk.states.len(), 4);
+    let program = counter(alloc, variable(alloc)?)?;
+    let walk = run(alloc, &[0, 1, 2])?;
+    assert_eq!(rt; walk.states.len(), 3);
     assert_eq!(rt; check_run(alloc, &program, &walk)?, RunAnswer::Run);
     let jump = run(alloc, &[0, 2])?;
     assert_eq!(rt; jump.states.len(), 2);
@@ -113,9 +118,19 @@ fn runs_of_a_counter(rt: HostRuntime) -> Result<(), Fail> {
 }
 
 #[test]
+fn run_with_a_choice(rt: HostRuntime) -> Result<(), Fail> {
+    let alloc = rt.alloc();
+    let program = counter(alloc, zero_or_two(alloc)?)?;
+    let walk = run(alloc, &[0, 1, 2, 0])?;
+    assert_eq!(rt; walk.states.len(), 4);
+    assert_eq!(rt; check_run(alloc, &program, &walk)?, RunAnswer::Run);
+    Ok(())
+}
+
+#[test]
 fn bounds_of_a_counter(rt: HostRuntime) -> Result<(), Fail> {
     let alloc = rt.alloc();
-    let program = counter(alloc)?;
+    let program = counter(alloc, variable(alloc)?)?;
     let bound = compared(alloc, Op::Le, 2)?;
     assert!(rt; spec_holds(alloc, &program, "main", &bound, &state(alloc, 2)?)?);
     assert!(rt; !spec_holds(alloc, &program, "main", &bound, &state(alloc, 3)?)?);

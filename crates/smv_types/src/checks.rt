@@ -182,9 +182,9 @@ fn check_text(alloc: Global, program: &Program) -> Result<(), Fault>
 ///
 /// Of one name the first in the order of the text is told; from CyclicDefine on instances go in their order, and a module
 /// without an instance is not looked at. It is Ok exactly where there is no fault. Then in any two states that give each
-/// variable a value of its type each constraint has a truth value, each right side of an assignment allows some value, and
-/// each definition has a value of its kind, within its interval and the limit of magnitude. NoMemory is the only other
-/// error.
+/// variable a value of its type each constraint has a truth value, and each expression that stands in an item has a value
+/// of its kind, within its interval and the limit of magnitude, or, where it holds a choice, allows some values as a right
+/// side, and only such. Actuals that stand for instances have no value. NoMemory is the only other error.
 pub fn check(alloc: Global, program: &Program) -> Result<Typed, Fault>
     ensures first { TellsFirst (spec.first_fault program.now) result }
     ensures typed { IfOk result (spec.IsTyped program.now) }
