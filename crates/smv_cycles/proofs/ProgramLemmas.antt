@@ -45,7 +45,7 @@ some_mapped f (Some a) = refl
 slot_found : (tree : Tree) (spot : Spot ℕ) (m : Meant ℕ) → meant_in tree spot ≡ Some m → (k : ℕ) × (slot_of tree spot ≡ Some k)
 slot_found tree spot m e = let r = then_some (slot_of tree spot) (λ k. and_then (slice_get tree.slots k) (λ slot. Some (meant_seen slot.meant))) m e in (r.0, r.1)
 
-leads_slot : (tree : Tree) (path : List Name) (row : ℕ) (spot : Spot ℕ) → leads (meant_in tree) row path ≡ Some spot → (k : ℕ) × (slot_of tree spot ≡ Some k)
+pub leads_slot : (tree : Tree) (path : List Name) (row : ℕ) (spot : Spot ℕ) → leads (meant_in tree) row path ≡ Some spot → (k : ℕ) × (slot_of tree spot ≡ Some k)
 leads_slot tree [] row spot e = cc
 leads_slot tree (name ∷ []) row spot e =
     let r = then_some (meant_in tree (record { place = row; name = name })) (λ m. Some (record { place = row; name = name })) spot e in

@@ -11,6 +11,7 @@ ghost use Rattle.smv_meaning.specs.Tree.{meant_seen};
 ghost use Rattle.smv_nodes.specs.Own.{plus};
 ghost use Rattle.smv_nodes.specs.Reads as reads_spec;
 ghost use Rattle.smv_nodes.specs.Count as spec;
+ghost use Rattle.smv_nodes.specs.Held as held;
 
 use crate::own::nodes_of;
 use crate::pieces::{Piece, item_pieces};
@@ -24,7 +25,7 @@ use std::alloc::Global;
 
 /// The piece behind a name of an instance.
 fn piece_of<'a>(row: usize, meant: Meant<'a>, late: bool) -> Option<Piece<'a>>
-    ensures { option_map spec.seen result ≡ and_then (spec.content row (meant_seen meant.entry)) (λ c. Some (spec.value_piece c.0 c.1 late)) }
+    ensures { option_map held.seen result ≡ and_then (spec.content row (meant_seen meant.entry)) (λ c. Some (spec.value_piece c.0 c.1 late)) }
 {
     match meant {
         Meant::Define(right) => Some(Piece {
@@ -45,7 +46,7 @@ fn piece_of<'a>(row: usize, meant: Meant<'a>, late: bool) -> Option<Piece<'a>>
 
 /// The piece behind a slot that is read after the step or now.
 fn shared_piece<'s, 'a>(tree: &Tree<'s, 'a>, slot: usize, late: bool) -> Option<Piece<'a>>
-    ensures { option_map spec.seen result ≡ spec.shared_piece tree.now (slot, late) }
+    ensures { option_map held.seen result ≡ spec.shared_piece (held.of_table tree.now) (slot, late) }
 {
     match at(tree.slots.as_slice(), slot).copied() {
         Some(slot) => piece_of(slot.row, slot.meant, late),
@@ -62,7 +63,7 @@ fn shared_by(
 ) -> Option<(usize, bool)>
     requires has { slots.HasSlots tree.now }
     requires tells { slots.TellsStanding tree.now standing.now }
-    ensures { result ≡ spec.shared_by tree.now row (reads_spec.seen mention.entry) }
+    ensures { result ≡ spec.shared_by (held.of_table tree.now) row (reads_spec.seen mention.entry) }
 {
     match leads(tree, standing, row, mention.path.names.as_slice()) {
         Some(slot) => match shared_piece(tree, slot, mention.late) {
@@ -76,7 +77,7 @@ fn shared_by(
 /// Notes the shared node for which a name stands, and tells how many nodes the name has of its own.
 fn note(found: &mut IndexSet<(usize, bool)>, shared: Option<(usize, bool)>) -> Result<u64, NoMemory>
     ensures own { IfOk result (λ n. n ≡ spec.name_nodes shared) }
-    ensures found { OnOk result (found.new.keys ≡ fold (insert_key spec.same) found.old.keys (option_to_list shared)) }
+    ensures found { OnOk result (found.new.keys ≡ fold (insert_key held.same) found.old.keys (option_to_list shared)) }
 {
     match shared {
         Some(shared) => {
@@ -99,8 +100,8 @@ fn take_names(
 ) -> Result<u64, NoMemory>
     requires has { slots.HasSlots tree.now }
     requires tells { slots.TellsStanding tree.now standing.now }
-    ensures count { IfOk result (λ n. n ≡ plus before (spec.names_nodes tree.now row (reads_spec.all_seen reads.now))) }
-    ensures found { OnOk result (found.new.keys ≡ fold (insert_key spec.same) found.old.keys (spec.shared_among tree.now row (reads_spec.all_seen reads.now))) }
+    ensures count { IfOk result (λ n. n ≡ plus before (spec.names_nodes (held.of_table tree.now) row (reads_spec.all_seen reads.now))) }
+    ensures found { OnOk result (found.new.keys ≡ fold (insert_key held.same) found.old.keys (spec.shared_among (held.of_table tree.now) row (reads_spec.all_seen reads.now))) }
 {
     let mut count = before;
     for mention in reads {
@@ -112,7 +113,7 @@ fn take_names(
 
 /// The nodes that a piece makes by itself.
 fn own_nodes(piece: Piece) -> u64
-    ensures { result ≡ spec.own_nodes (spec.seen piece.entry) }
+    ensures { result ≡ spec.own_nodes (held.seen piece.entry) }
 {
     let nodes = nodes_of(piece.right);
     if piece.assigned {
@@ -135,8 +136,8 @@ fn take_piece(
 ) -> Result<u64, NoMemory>
     requires has { slots.HasSlots tree.now }
     requires tells { slots.TellsStanding tree.now standing.now }
-    ensures count { IfOk result (λ n. n ≡ plus before (spec.piece_nodes tree.now (spec.seen piece.entry))) }
-    ensures found { OnOk result (found.new.keys ≡ fold (insert_key spec.same) found.old.keys (spec.shared_in tree.now (spec.seen piece.entry))) }
+    ensures count { IfOk result (λ n. n ≡ plus before (spec.piece_nodes (held.of_table tree.now) (held.seen piece.entry))) }
+    ensures found { OnOk result (found.new.keys ≡ fold (insert_key held.same) found.old.keys (spec.shared_in (held.of_table tree.now) (held.seen piece.entry))) }
 {
     let mut reads = Vec::new(alloc);
     push_reads(&mut reads, piece.right, piece.late)?;
@@ -155,8 +156,8 @@ fn take_pieces(
 ) -> Result<u64, NoMemory>
     requires has { slots.HasSlots tree.now }
     requires tells { slots.TellsStanding tree.now standing.now }
-    ensures count { IfOk result (λ n. n ≡ spec.pieces_nodes tree.now (spec.all_seen pieces.now)) }
-    ensures found { OnOk result (found.new.keys ≡ fold (insert_key spec.same) found.old.keys (flat_map (spec.shared_in tree.now) (spec.all_seen pieces.now))) }
+    ensures count { IfOk result (λ n. n ≡ spec.pieces_nodes (held.of_table tree.now) (held.all_seen pieces.now)) }
+    ensures found { OnOk result (found.new.keys ≡ fold (insert_key held.same) found.old.keys (flat_map (spec.shared_in (held.of_table tree.now)) (held.all_seen pieces.now))) }
 {
     let mut count = 0;
     for piece in pieces {
@@ -177,8 +178,8 @@ fn take_shared(
 ) -> Result<u64, NoMemory>
     requires has { slots.HasSlots tree.now }
     requires tells { slots.TellsStanding tree.now standing.now }
-    ensures count { IfOk result (λ n. n ≡ plus before (spec.pieces_nodes tree.now (option_to_list (spec.shared_piece tree.now shared)))) }
-    ensures found { OnOk result (found.new.keys ≡ fold (insert_key spec.same) found.old.keys (flat_map (spec.shared_in tree.now) (option_to_list (spec.shared_piece tree.now shared)))) }
+    ensures count { IfOk result (λ n. n ≡ plus before (spec.pieces_nodes (held.of_table tree.now) (option_to_list (spec.shared_piece (held.of_table tree.now) shared)))) }
+    ensures found { OnOk result (found.new.keys ≡ fold (insert_key held.same) found.old.keys (flat_map (spec.shared_in (held.of_table tree.now)) (option_to_list (spec.shared_piece (held.of_table tree.now) shared)))) }
 {
     match shared_piece(tree, shared.0, shared.1) {
         Some(piece) => take_piece(alloc, found, tree, standing, piece, before),
@@ -189,7 +190,7 @@ fn take_shared(
 /// The shared node that was found at this place.
 fn found_at(found: &IndexSet<(usize, bool)>, k: usize) -> Option<(usize, bool)>
     ensures found { result ≡ slice_get found.now.keys k }
-    ensures once { IsDistinct spec.same found.now.keys }
+    ensures once { IsDistinct held.same found.now.keys }
 {
     if k < found.len() {
         found.get_index(k).copied()
@@ -207,7 +208,7 @@ fn count_pieces(
 ) -> Result<u64, NoMemory>
     requires has { slots.HasSlots tree.now }
     requires tells { slots.TellsStanding tree.now standing.now }
-    ensures { IfOk result (λ n. spec.IsCount tree.now (spec.all_seen pieces.now) n) }
+    ensures { IfOk result (λ n. spec.IsCount (held.of_table tree.now) (held.all_seen pieces.now) n) }
 {
     let mut found = IndexSet::new(alloc);
     let mut count = take_pieces(alloc, &mut found, tree, standing, pieces)?;
@@ -236,7 +237,7 @@ pub fn count_nodes(
     requires right { checking.IsRight program.now tree.now }
     requires tells { slots.TellsStanding tree.now standing.now }
     requires rows { checking.AreRows tree.now order.now }
-    ensures { IfOk result (λ n. spec.IsCount tree.now (spec.item_pieces program.now tree.now order.now) n) }
+    ensures { IfOk result (λ n. spec.IsCount (held.of_table tree.now) (held.table_pieces program.now tree.now order.now) n) }
 {
     let pieces = item_pieces(alloc, program, tree, order)?;
     count_pieces(alloc, tree, standing, pieces.as_slice())

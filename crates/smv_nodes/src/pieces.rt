@@ -6,6 +6,7 @@ ghost use Rattle.smv_meaning.specs.Checking as checking;
 ghost use Rattle.smv_meaning.specs.RunCheck as check;
 ghost use Rattle.smv_nodes.specs.Sections.{TellsSections};
 ghost use Rattle.smv_nodes.specs.Count as spec;
+ghost use Rattle.smv_nodes.specs.Held as held;
 
 use crate::sections::{sections_by_name, sections_linked};
 use smv_ast::{Expr, NoMemory, Program, Section};
@@ -30,8 +31,8 @@ fn push_value<'a>(
     row: usize,
     right: &'a Expr,
 ) -> Result<(), AllocError>
-    ensures { OnOk result (spec.all_seen pieces.new.items
-        ≡ spec.all_seen pieces.old.items ++ spec.value_piece row right.now false ∷ []) }
+    ensures { OnOk result (held.all_seen pieces.new.items
+        ≡ held.all_seen pieces.old.items ++ spec.value_piece row right.now false ∷ []) }
 {
     pieces.push(Piece {
         row,
@@ -48,8 +49,8 @@ fn push_section<'a>(
     row: usize,
     section: &'a Section,
 ) -> Result<(), AllocError>
-    ensures { OnOk result (spec.all_seen pieces.new.items
-        ≡ spec.all_seen pieces.old.items ++ spec.section_pieces row section.now) }
+    ensures { OnOk result (held.all_seen pieces.new.items
+        ≡ held.all_seen pieces.old.items ++ spec.section_pieces row section.now) }
 {
     match section {
         Section::Assigns(assignments) => {
@@ -76,8 +77,8 @@ fn push_sections<'a>(
     row: usize,
     sections: &'a [Section],
 ) -> Result<(), AllocError>
-    ensures { OnOk result (spec.all_seen pieces.new.items
-        ≡ spec.all_seen pieces.old.items ++ flat_map (spec.section_pieces row) sections.now) }
+    ensures { OnOk result (held.all_seen pieces.new.items
+        ≡ held.all_seen pieces.old.items ++ flat_map (spec.section_pieces row) sections.now) }
 {
     for section in sections {
         push_section(pieces, row, section)?;
@@ -110,7 +111,7 @@ pub fn item_pieces<'p>(
 ) -> Result<Vec<Piece<'p>>, NoMemory>
     requires right { checking.IsRight program.now tree.now }
     requires rows { checking.AreRows tree.now order.now }
-    ensures { IfOk result (λ pieces. spec.all_seen pieces.items ≡ spec.item_pieces program.now tree.now order.now) }
+    ensures { IfOk result (λ pieces. held.all_seen pieces.items ≡ held.table_pieces program.now tree.now order.now) }
 {
     let map = sections_by_name(alloc, program)?;
     let mut pieces = Vec::new(alloc);

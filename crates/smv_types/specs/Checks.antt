@@ -1,16 +1,14 @@
 -- The first fault of a model, by all rules in their order.
-use Rattle.std.specs.Prelude.{◌≡◌, ℕ, List, map, Option}
+use Rattle.std.specs.Prelude.{◌≡◌, ◌≢◌, ℕ, map, Option, AllPairs}
 use Rattle.smv_ast.specs.declared.fault.Fault.{Fault}
 use Rattle.smv_ast.specs.declared.program.Program.{Program}
-use Rattle.smv_meaning.specs.declared.tree.Tree.{Tree}
 use Rattle.smv_meaning.specs.Instances.{instances, place_text}
-use Rattle.smv_meaning.specs.Checking.{IsRight, stands}
 use Rattle.smv_meaning.specs.Runs.{or_else}
 use Rattle.smv_names.specs.NamesFault.{names_fault}
 use Rattle.smv_shape.specs.Shape.{shape_fault}
 use Rattle.smv_cycles.specs.Cycles.{cycles_fault}
 use Rattle.smv_kinds.specs.Rules.{kinds_fault}
-use Rattle.smv_nodes.specs.Count.{IsCount, item_pieces}
+use Rattle.smv_nodes.specs.Count.{HasNodes}
 use Rattle.smv_types.specs.declared.checks.Typed.{Typed}
 
 -- the first fault of what the instances of a model read: what reads itself or nests too deep, then kinds and intervals
@@ -25,15 +23,16 @@ text_fault program = or_else (names_fault program) (shape_fault program)
 abbrev pub first_fault : Program → Option Fault
 first_fault program = or_else (text_fault program) (read_fault program)
 
--- how many nodes the constraints and specs of a model make, by a table of its instances and their order
-pub record HasNodes (program : Program) (n : ℕ) : Type 0 where
-  pub tree : Tree
-  pub right : IsRight program tree
-  pub order : List ℕ
-  pub all : map (stands tree) order ≡ instances program
-  pub count : IsCount tree (item_pieces program tree order) n
+-- no two instances of a model are one
+abbrev pub AreApart : Program → Type 0
+AreApart program = AllPairs (λ p q. p ≢ q) (instances program)
+
+-- so many nodes the constraints and specs of a model make; no other number is theirs
+pub record IsNodes (program : Program) (n : ℕ) : Type 0 where
+  pub has : HasNodes program n
+  pub only : (m : ℕ) → HasNodes program m → m ≡ n
 
 -- what a model has: the texts of its instances in their order, and how many nodes its constraints and specs make
 pub record IsTyped (program : Program) (typed : Typed) : Type 0 where
   pub instances : typed.instances ≡ map place_text (instances program)
-  pub nodes : HasNodes program typed.nodes
+  pub nodes : IsNodes program typed.nodes

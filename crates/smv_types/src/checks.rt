@@ -79,7 +79,26 @@ fn row_texts(
     Ok(found)
 }
 
-/// What a model has whose instances are in this table and this order.
+/// How many nodes a model makes whose instances are in this table, each once.
+fn model_nodes(
+    alloc: Global,
+    program: &Program,
+    tree: &Tree,
+    order: &[usize],
+    standing: &[Option<usize>],
+) -> Result<u64, NoMemory>
+    requires right { checking.IsRight program.now tree.now }
+    requires rows { checking.AreRows tree.now order.now }
+    requires order { map (checking.stands tree.now) order.now ≡ instances program.now }
+    requires standing { slots.TellsStanding tree.now standing.now }
+    requires count { length tree.now.rows ≡ length (instances program.now) }
+    requires apart { spec.AreApart program.now }
+    ensures { IfOk result (spec.IsNodes program.now) }
+{
+    count_nodes(alloc, program, tree, standing, order)
+}
+
+/// What a model has whose instances are in this table, each once, and in this order.
 fn typed_of(
     alloc: Global,
     program: &Program,
@@ -91,11 +110,13 @@ fn typed_of(
     requires rows { checking.AreRows tree.now order.now }
     requires order { map (checking.stands tree.now) order.now ≡ instances program.now }
     requires standing { slots.TellsStanding tree.now standing.now }
+    requires count { length tree.now.rows ≡ length (instances program.now) }
+    requires apart { spec.AreApart program.now }
     ensures { IfOk result (spec.IsTyped program.now) }
 {
     let texts = path_texts(alloc, tree.rows.as_slice())?;
     let instances = row_texts(alloc, tree, texts.as_slice(), order)?;
-    let nodes = count_nodes(alloc, program, tree, standing, order)?;
+    let nodes = model_nodes(alloc, program, tree, order, standing)?;
     Ok(Typed { instances, nodes })
 }
 
@@ -129,6 +150,8 @@ fn check_rows(
     requires rows { checking.AreRows tree.now order.now }
     requires order { map (checking.stands tree.now) order.now ≡ instances program.now }
     requires standing { slots.TellsStanding tree.now standing.now }
+    requires count { length tree.now.rows ≡ length (instances program.now) }
+    requires apart { spec.AreApart program.now }
     ensures first { TellsFirst (spec.read_fault program.now) result }
     ensures typed { IfOk result (spec.IsTyped program.now) }
     ensures sound { IfOk result (λ _. soundness.AreShaped program.now → soundness.IsSound program.now) }
@@ -138,7 +161,9 @@ fn check_rows(
 }
 
 fn check_tree(alloc: Global, program: &Program, tree: &Tree) -> Result<Typed, Fault>
-    requires { checking.IsRight program.now tree.now }
+    requires right { checking.IsRight program.now tree.now }
+    requires count { length tree.now.rows ≡ length (instances program.now) }
+    requires apart { spec.AreApart program.now }
     ensures first { TellsFirst (spec.read_fault program.now) result }
     ensures typed { IfOk result (spec.IsTyped program.now) }
     ensures sound { IfOk result (λ _. soundness.AreShaped program.now → soundness.IsSound program.now) }
@@ -149,7 +174,8 @@ fn check_tree(alloc: Global, program: &Program, tree: &Tree) -> Result<Typed, Fa
 }
 
 fn check_scopes(alloc: Global, program: &Program, scopes: &[Scope]) -> Result<Typed, Fault>
-    requires { map scope_seen scopes.now ≡ scopes_of_program program.now }
+    requires scopes { map scope_seen scopes.now ≡ scopes_of_program program.now }
+    requires apart { spec.AreApart program.now }
     ensures first { TellsFirst (spec.read_fault program.now) result }
     ensures typed { IfOk result (spec.IsTyped program.now) }
     ensures sound { IfOk result (λ _. soundness.AreShaped program.now → soundness.IsSound program.now) }

@@ -2,22 +2,23 @@ use Rattle.std.proofs.Common.{fold, sym, ap, ◌∙◌}
 use Rattle.std.specs.List.{flat_map}
 use Rattle.indexmap.specs.IndexSet.{insert_key}
 use Rattle.smv_nodes.specs.Count as spec
+use Rattle.smv_nodes.specs.Held as held
 use Rattle.smv_nodes.proofs.CountLemmas.{progress_start, progress_step, progress_end}
 use Rattle.smv_nodes.proofs.count.count_pieces.Goals as goal
 
 pub loop-k-init : goal.loop-k-init
 loop-k-init c =
-    let items = spec.all_seen c.args.pieces.now in
-    progress_start c.args.tree.now items _ _
-    (c.in_ok-count.ensures.found ∙ ap (λ keys. fold (insert_key spec.same) keys (flat_map (spec.shared_in c.args.tree.now) items)) c.new-found.ensures.empty)
+    let items = held.all_seen c.args.pieces.now in
+    progress_start (held.of_table c.args.tree.now) items _ _
+    (c.in_ok-count.ensures.found ∙ ap (λ keys. fold (insert_key held.same) keys (flat_map (spec.shared_in (held.of_table c.args.tree.now)) items)) c.new-found.ensures.empty)
     c.in_ok-count.ensures.count
 
 pub returns-in-None : goal.returns-in-None
 returns-in-None c =
-    progress_end c.args.tree.now (spec.all_seen c.args.pieces.now) c.loop-k.found.keys c.loop-k.k c.loop-k.count
+    progress_end (held.of_table c.args.tree.now) (held.all_seen c.args.pieces.now) c.loop-k.found.keys c.loop-k.k c.loop-k.count
     (sym c.found_at.ensures.found ∙ c.in-None.is) c.found_at.ensures.once c.loop-k.invariant
 
 pub loop-k-preserved : goal.loop-k-preserved
 loop-k-preserved c =
-    progress_step c.args.tree.now (spec.all_seen c.args.pieces.now) c.loop-k.found.keys _ c.loop-k.k c.loop-k.count _ c.in-Some.shared
+    progress_step (held.of_table c.args.tree.now) (held.all_seen c.args.pieces.now) c.loop-k.found.keys _ c.loop-k.k c.loop-k.count _ c.in-Some.shared
     (sym c.found_at.ensures.found ∙ c.in-Some.is) c.in_ok-count-in-Some.ensures.found c.in_ok-count-in-Some.ensures.count c.loop-k.invariant
