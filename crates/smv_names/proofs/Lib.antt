@@ -1,7 +1,6 @@
 pub mod SetLemmas
 pub mod NumberLemmas
 pub mod TellLemmas
-pub mod RankLemmas
 pub mod SymbolLemmas
 pub mod RowsLemmas
 pub mod KnownLemmas

@@ -2,7 +2,6 @@ pub mod Sets
 pub mod Duplicates
 pub mod Modules
 pub mod Recursion
-pub mod RecursionGrowing
 pub mod Rows
 pub mod Unknown
 pub mod NamesFault

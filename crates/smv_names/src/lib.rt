@@ -15,7 +15,6 @@ mod stated;
 pub mod symbols;
 pub mod unknown;
 mod unknown_modules;
-mod visiting;
 
 pub use check::check_names;
 

@@ -1,5 +1,5 @@
-//! How modules lead to one another by their instances, found in one walk over them. It saves time
-//! only, so nothing is promised of it: what is said of ranks is tested where it is used.
+//! How things lead to one another, found in one walk over them. It saves time only, so nothing is
+//! promised of it: what is said of ranks is tested where it is used.
 
 use smv_ast::{List, NoMemory};
 use sqlite_items::at;
@@ -8,36 +8,36 @@ use std::alloc::Global;
 /// What the walk finds.
 #[derive(Drop)]
 pub struct Visits {
-    /// The modules, each mostly behind those of its instances.
+    /// The things, each mostly behind those to which it leads.
     pub order: List<usize>,
-    /// The rank of each module, from 1 on. Modules that lead to one another have one rank, and no
-    /// module has a lower one than those of its instances.
+    /// The rank of each thing, from 1 on. Things that lead to one another have one rank, and none
+    /// has a lower one than those to which it leads.
     pub ranks: List<usize>,
 }
 
-/// A module that is visited, and which of its instances comes next.
+/// A thing that is visited, and which of those to which it leads comes next.
 #[derive(Clone, Copy, Drop)]
 struct Visit {
-    module: usize,
+    thing: usize,
     next: usize,
 }
 
-/// The time at which the visit of a module began that has none yet.
+/// The time at which the visit of a thing began that has none yet.
 const NEVER: usize = 0;
 
-/// The time at which the visit of a module began that has a rank.
+/// The time at which the visit of a thing began that has a rank.
 const RANKED: usize = usize::MAX;
 
-/// A walk that goes on to the modules of the instances first.
+/// A walk that goes on first to those to which a thing leads.
 #[derive(Drop)]
 struct Walk<'g> {
     graph: &'g [List<usize>],
-    /// The modules that are visited, the last of them the current one.
+    /// The things that are visited, the last of them the current one.
     visits: List<Visit>,
-    /// When the visit of each module began.
+    /// When the visit of each thing began.
     begun: List<usize>,
     time: usize,
-    /// The visited modules without a rank, as they were begun.
+    /// The visited things without a rank, as they were begun.
     waiting: List<usize>,
     /// When the visits began of those that none begun earlier is known to belong to.
     heads: List<usize>,
@@ -53,31 +53,31 @@ fn put(numbers: &mut List<usize>, k: usize, number: usize) {
 }
 
 impl<'g> Walk<'g> {
-    fn begun_at(&self, module: usize) -> usize {
-        match at(self.begun.as_slice(), module).copied() {
+    fn begun_at(&self, thing: usize) -> usize {
+        match at(self.begun.as_slice(), thing).copied() {
             Some(time) => time,
             None => RANKED,
         }
     }
 
-    /// The module of the next instance of the module that is visited.
+    /// The next of those to which the visited thing leads.
     fn next_of(&self, visit: Visit) -> Option<usize> {
-        match at(self.graph, visit.module) {
-            Some(calls) => at(calls.as_slice(), visit.next).copied(),
+        match at(self.graph, visit.thing) {
+            Some(targets) => at(targets.as_slice(), visit.next).copied(),
             None => None,
         }
     }
 
-    fn begin(&mut self, module: usize) -> Result<(), NoMemory> {
+    fn begin(&mut self, thing: usize) -> Result<(), NoMemory> {
         self.time = self.time.saturating_add(1);
-        put(&mut self.begun, module, self.time);
-        self.waiting.push(module)?;
+        put(&mut self.begun, thing, self.time);
+        self.waiting.push(thing)?;
         self.heads.push(self.time)?;
-        self.visits.push(Visit { module, next: 0 })?;
+        self.visits.push(Visit { thing, next: 0 })?;
         Ok(())
     }
 
-    /// The current module leads back to one that was begun at this time: none begun later is a head.
+    /// The current thing leads back to one that was begun at this time: none begun later is a head.
     fn meet(&mut self, time: usize) {
         for _head in 0..self.heads.len() {
             match self.heads.as_slice().last().copied() {
@@ -92,55 +92,55 @@ impl<'g> Walk<'g> {
         }
     }
 
-    /// All modules down to this one, a head, lead to one another: they get the next rank.
-    fn rank_down_to(&mut self, module: usize) {
+    /// All things down to this one, a head, lead to one another: they get the next rank.
+    fn rank_down_to(&mut self, thing: usize) {
         self.rank = self.rank.saturating_add(1);
-        for _module in 0..self.waiting.len() {
+        for _thing in 0..self.waiting.len() {
             let Some(last) = self.waiting.pop() else {
                 return;
             };
             put(&mut self.ranks, last, self.rank);
             put(&mut self.begun, last, RANKED);
-            if last == module {
+            if last == thing {
                 return;
             }
         }
     }
 
-    fn end(&mut self, module: usize) -> Result<(), NoMemory> {
-        self.order.push(module)?;
+    fn end(&mut self, thing: usize) -> Result<(), NoMemory> {
+        self.order.push(thing)?;
         let head = self.heads.as_slice().last().copied();
-        if head == Some(self.begun_at(module)) {
+        if head == Some(self.begun_at(thing)) {
             self.heads.pop();
-            self.rank_down_to(module);
+            self.rank_down_to(thing);
         }
         Ok(())
     }
 
-    /// Goes on to the next instance of the current module, or ends its visit. Tells whether a module
-    /// was visited.
+    /// Goes on to the next of those to which the current thing leads, or ends its visit. Tells whether
+    /// a thing was visited.
     fn turn(&mut self) -> Result<bool, NoMemory> {
         let Some(visit) = self.visits.pop() else {
             return Ok(false);
         };
-        let Some(called) = self.next_of(visit) else {
-            self.end(visit.module)?;
+        let Some(target) = self.next_of(visit) else {
+            self.end(visit.thing)?;
             return Ok(true);
         };
         self.visits.push(Visit {
-            module: visit.module,
+            thing: visit.thing,
             next: visit.next.saturating_add(1),
         })?;
-        let time = self.begun_at(called);
+        let time = self.begun_at(target);
         if time == NEVER {
-            self.begin(called)?;
+            self.begin(target)?;
         } else {
             self.meet(time);
         }
         Ok(true)
     }
 
-    /// Visits a module and all to which it leads.
+    /// Visits a thing and all to which it leads.
     fn visit_from(&mut self, start: usize) -> Result<(), NoMemory> {
         if self.begun_at(start) != NEVER {
             return Ok(());
@@ -163,7 +163,7 @@ fn zeros(alloc: Global, count: usize) -> Result<List<usize>, NoMemory> {
     Ok(numbers)
 }
 
-/// Visits all modules.
+/// Visits all things of a graph.
 pub fn visit_all(alloc: Global, graph: &[List<usize>]) -> Result<Visits, NoMemory> {
     let mut walk = Walk {
         graph,

@@ -1,17 +1,16 @@
--- A module that has a higher rank than those of its instances doesn't lead back to itself.
+-- A thing that has a higher rank than those to which it leads doesn't lead back to itself.
 use Rattle.std.proofs.Common.{◌≡◌, ℕ, zero, suc, ◌-◌, ◌≤◌, Bool, true, false, List, [], ◌∷◌, length, Option, Some, None, refl, ap, subst, arith}
 use Rattle.std.specs.Prelude.{slice_get, nat_eq, nat_lt, if◌then◌else◌, is_some}
 use Rattle.std.proofs.lemmas.Bool.{eqb-true}
 use Rattle.std.proofs.lemmas.Option.{slice_get_past}
 use Rattle.smv_meaning.specs.Least.{known, most}
 use Rattle.smv_meaning.specs.Runs.{or_else, first_some}
-use Rattle.smv_names.specs.Recursion.{calls_at, leads_by, lead_step, leads, recursive_at, rank_of, are_within, AreRanks, is_above}
-use Rattle.smv_ast.specs.declared.program.Module.{Module}
-use Rattle.smv_ast.specs.declared.fault.Fault.TheVariants as fault
+use Rattle.smv_loops.specs.Loops.{targets_at, leads_by, lead_step, leads}
+use Rattle.smv_loops.specs.Ranks.{rank_of, are_within, AreRanks, is_above}
 
--- beyond the modules nothing leads anywhere
+-- beyond the graph nothing leads anywhere
 pub lead_past : (graph : List (List ℕ)) (goal : ℕ) (told : ℕ → Option (Unit {0})) (k : ℕ) → length graph ≤ k → lead_step graph goal told k ≡ None
-lead_past graph goal told k h = ap (λ (o : Option (List ℕ)). first_some (leads_by goal told) (calls_at o)) (slice_get_past graph k h)
+lead_past graph goal told k h = ap (λ (o : Option (List ℕ)). first_some (leads_by goal told) (targets_at o)) (slice_get_past graph k h)
 
 module _ (graph : List (List ℕ)) (ranks : List ℕ) (right : AreRanks graph ranks) where
   abbrev led : ℕ → ℕ → ℕ → Option (Unit {0})
@@ -21,7 +20,7 @@ module _ (graph : List (List ℕ)) (ranks : List ℕ) (right : AreRanks graph ra
   abbrev Rises : ℕ → ℕ → Type 0
   Rises goal turns = (k : ℕ) → led goal turns k ≡ Some tt → rank_of ranks goal ≤ rank_of ranks k
 
-  -- one module leads to the goal, or else another one does
+  -- one thing leads to the goal, or else another one does
   one : (goal turns highest k : ℕ) (other : Option (Unit {0})) → Rises goal turns → rank_of ranks k ≤ highest → (other ≡ Some tt → rank_of ranks goal ≤ highest) → or_else (leads_by goal (led goal turns) k) other ≡ Some tt → rank_of ranks goal ≤ highest
   one goal turns highest k other rises l more = is_goal (nat_eq k goal) refl
     where
@@ -44,26 +43,22 @@ module _ (graph : List (List ℕ)) (ranks : List ℕ) (right : AreRanks graph ra
 
   rises : (goal turns : ℕ) → Rises goal turns
   rises goal zero k l = cc
-  rises goal (suc turns) k l = among goal turns (rank_of ranks k) (rises goal turns) (calls_at (slice_get graph k)) (right k) l
+  rises goal (suc turns) k l = among goal turns (rank_of ranks k) (rises goal turns) (targets_at (slice_get graph k)) (right k) l
 
   never : (k turns : ℕ) → is_above graph ranks k ≡ true → led k turns k ≡ Some tt → ⊥
   never k zero a l = cc
   never k (suc turns) a l = at (nat_eq (rank_of ranks k) 0) refl a
     where
-      at : (b : Bool) → nat_eq (rank_of ranks k) 0 ≡ b → (if b then false else are_within ranks (rank_of ranks k - 1) (calls_at (slice_get graph k))) ≡ true → ⊥
+      at : (b : Bool) → nat_eq (rank_of ranks k) 0 ≡ b → (if b then false else are_within ranks (rank_of ranks k - 1) (targets_at (slice_get graph k))) ≡ true → ⊥
       at true g w = cc
       at false g w =
-          let r = among k turns (rank_of ranks k - 1) (rises k turns) (calls_at (slice_get graph k)) w l in
+          let r = among k turns (rank_of ranks k - 1) (rises k turns) (targets_at (slice_get graph k)) w l in
           absurd (grind (arith, r, g))
 
-  -- nothing leads back to a module that has a higher rank than those of its instances
+  -- nothing leads back to a thing that has a higher rank than those to which it leads
   pub no_way_back : (k : ℕ) → is_above graph ranks k ≡ true → leads graph k k ≡ false
   no_way_back k a = at (led k most k) refl
     where
       at : (o : Option (Unit {0})) → led k most k ≡ o → is_some o ≡ false
       at None g = refl
       at (Some tt) g = absurd (never k most a g)
-
--- so it is not refused
-pub recursive_none : (graph : List (List ℕ)) (ranks : List ℕ) (k : ℕ) (m : Module) → AreRanks graph ranks → is_above graph ranks k ≡ true → recursive_at graph k m ≡ None
-recursive_none graph ranks k m right a = ap (λ (b : Bool). if b then Some (fault.RecursiveModule (Some m.at) m.name) else None) (no_way_back graph ranks right k a)

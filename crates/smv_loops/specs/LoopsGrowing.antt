@@ -1,12 +1,12 @@
--- Of more that is known of modules more is made: laws of the tables that are filled with it.
+-- Of more that is known of things more is made: laws of the tables that are filled with it.
 use Rattle.std.specs.Prelude.{ℕ, nat_eq, Bool, true, false, if◌then◌else◌, List, [], ◌∷◌, Option, Some, None, slice_get}
 use Rattle.std.proofs.Common.{refl}
 use Rattle.smv_meaning.specs.Least.{Under}
 use Rattle.smv_meaning.specs.Growing.{Le}
 use Rattle.smv_meaning.specs.Runs.{or_else, first_some}
-use Rattle.smv_names.specs.Recursion.{calls_at, leads_by, lead_step}
+use Rattle.smv_loops.specs.Loops.{targets_at, leads_by, lead_step}
 
--- what is known of modules
+-- what is known of things
 abbrev Told : Type 0
 Told = ℕ → Option (Unit {0})
 
@@ -27,6 +27,6 @@ first_grows : (goal : ℕ) (s t : Told) → Under s t → (ks : List ℕ) → Le
 first_grows goal s t u [] = λ a e. e
 first_grows goal s t u (k ∷ ks) = or_le (leads_by goal s k) (leads_by goal t k) (first_some (leads_by goal s) ks) (first_some (leads_by goal t) ks) (leads_by_grows goal s t u k) (first_grows goal s t u ks)
 
--- more modules lead to the goal
+-- more things lead to the goal
 pub lead_grows : (graph : List (List ℕ)) (goal : ℕ) (s t : Told) → Under s t → Under (lead_step graph goal s) (lead_step graph goal t)
-lead_grows graph goal s t u k = first_grows goal s t u (calls_at (slice_get graph k))
+lead_grows graph goal s t u k = first_grows goal s t u (targets_at (slice_get graph k))

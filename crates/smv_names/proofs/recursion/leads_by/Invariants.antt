@@ -1,8 +1,0 @@
-use Rattle.std.proofs.Common.{◌≡◌, drop}
-use Rattle.smv_meaning.specs.Runs.{first_some}
-use Rattle.smv_meaning.specs.Least.{entry}
-use Rattle.smv_names.specs.Recursion as spec
-use Rattle.smv_names.proofs.recursion.leads_by.Given as goal
-
-abbrev pub invariant-loop-k : goal.invariant-loop-k
-invariant-loop-k l = first_some (spec.leads_by l.goal (entry l.table)) (drop l.k-index l.calls) ≡ first_some (spec.leads_by l.goal (entry l.table)) l.calls
