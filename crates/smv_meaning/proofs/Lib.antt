@@ -10,6 +10,7 @@ pub mod OrderLemmas
 pub mod CountLemmas
 pub mod MentionLemmas
 pub mod ItemLemmas
+pub mod SectionLemmas
 pub mod RunLemmas
 pub mod RunLaw
 mod Examples

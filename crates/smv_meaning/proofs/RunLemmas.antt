@@ -2,7 +2,6 @@
 use Rattle.std.proofs.Common.{◌≡◌, ℕ, zero, suc, ◌+◌, ◌<◌, Bool, true, false, List, [], ◌∷◌, ◌++◌, length, map, drop, get_or, Option, Some, None, refl, sym, ap, ◌∙◌, subst, arith, codes, inl, inr, append_assoc, cond}
 use Rattle.std.specs.Prelude.{slice_get, find, All}
 use Rattle.std.specs.Str.{bytes_eq}
-use Rattle.smv_ast.specs.declared.program.Module.{Module}
 use Rattle.smv_ast.specs.declared.program.Program.{Program}
 use Rattle.smv_meaning.specs.declared.tree.Tree.{Tree}
 use Rattle.smv_meaning.specs.declared.tree.Row.{Row}
@@ -17,13 +16,13 @@ use Rattle.smv_meaning.specs.Items.{seen_state, IsView, true_in}
 use Rattle.smv_meaning.specs.Value.{is_true}
 use Rattle.smv_meaning.specs.Values.{value_in}
 use Rattle.smv_ast.specs.declared.syntax.Expr.{Expr}
-use Rattle.smv_meaning.specs.Instances.{Place, or_empty, module_at, instances, place_text, path_of}
+use Rattle.smv_meaning.specs.Instances.{Place, module_at, instances, place_text, path_of}
 use Rattle.smv_meaning.specs.Tree.{next_place, place_at, places}
 use Rattle.smv_meaning.specs.Worth.{AreLinked, TellsPaths}
 use Rattle.smv_ast.specs.PrintedExpr.{joined, each_after}
 use Rattle.std.proofs.lemmas.List.{append-nil}
-use Rattle.smv_meaning.specs.Checking.{IsRight, AreRows, stands, Tells}
-use Rattle.smv_meaning.specs.RunCheck.{sections_found, sections_of_link, sections_at, broken_in_order, AreTables, text_of_place, named_in, net_holds}
+use Rattle.smv_meaning.specs.Checking.{AreRows, stands, Tells}
+use Rattle.smv_meaning.specs.RunCheck.{broken_in_order, AreTables, text_of_place, named_in, net_holds}
 use Rattle.smv_meaning.proofs.WorthLemmas.{get_item}
 use Rattle.smv_meaning.proofs.TreeLemmas.{get_append, get_last, get_within, below_or}
 use Rattle.smv_meaning.proofs.NumberLemmas.{get_at}
@@ -31,18 +30,6 @@ use Rattle.smv_meaning.specs.declared.run.RunAnswer.{RunAnswer}
 use Rattle.smv_meaning.specs.declared.run.RunAnswer.TheVariants as answer
 use Rattle.smv_meaning.specs.declared.value.Value.{Value}
 use Rattle.smv_meaning.specs.declared.run.RunState.{RunState}
-
-found_sections : (name : Name) (o : Option Module) → sections_found o ≡ (or_empty name o).sections
-found_sections name None = refl
-found_sections name (Some m) = refl
-
-link_sections : (program : Program) (ps : List Place) (link : Option Link) → sections_of_link program link ≡ sections_at program (next_place ps link)
-link_sections program ps None = found_sections (codes "main") (find (λ m. bytes_eq m.name (codes "main")) program.modules)
-link_sections program ps (Some link) = found_sections link.called.now (find (λ m. bytes_eq m.name link.called.now) program.modules)
-
-pub sections_is : (program : Program) (tree : Tree) (k : ℕ) (row : Row) → IsRight program tree → k < length tree.rows → row ≡ get_or tree.rows k row → sections_of_link program row.link ≡ sections_at program (stands tree k)
-sections_is program tree k row right h e =
-    link_sections program (places tree.rows) row.link ∙ ap (sections_at program) (sym (right.rows k row (get_item tree.rows k row h e)).stands)
 
 -- ---- the first broken item
 

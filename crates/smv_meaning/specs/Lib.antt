@@ -19,3 +19,4 @@ pub mod StepGrowing
 pub mod Checking
 pub mod Items
 pub mod RunCheck
+pub mod Sections

@@ -1,8 +1,7 @@
 -- Runs as they are checked, by the numbers of instances.
-use Rattle.std.specs.Prelude.{◌≡◌, ℕ, Bool, false, List, [], ◌++◌, Option, Some, None, find, codes, slice_get}
+use Rattle.std.specs.Prelude.{◌≡◌, ℕ, Bool, false, List, ◌++◌, Option, Some, None, find, codes, slice_get}
 use Rattle.std.specs.Str.{bytes_eq}
 use Rattle.smv_ast.specs.declared.syntax.Span.{Span}
-use Rattle.smv_ast.specs.declared.program.Module.{Module}
 use Rattle.smv_ast.specs.declared.program.Section.{Section}
 use Rattle.smv_ast.specs.declared.program.Program.{Program}
 use Rattle.smv_meaning.specs.declared.items.View.{View}
@@ -10,27 +9,12 @@ use Rattle.smv_ast.specs.declared.syntax.Expr.{Expr}
 use Rattle.smv_meaning.specs.declared.tree.Tree.{Tree}
 use Rattle.smv_meaning.specs.declared.tree.Link.{Link}
 use Rattle.smv_meaning.specs.declared.worth.Net.{Net}
-use Rattle.smv_meaning.specs.Value.{Name}
 use Rattle.smv_meaning.specs.Instances.{Place, module_at, place_text}
 use Rattle.smv_meaning.specs.Runs.{all_items, first_some, holds_at}
 use Rattle.smv_meaning.specs.declared.value.Value.{Value}
 use Rattle.smv_meaning.specs.declared.run.RunState.{RunState}
 use Rattle.smv_meaning.specs.Checking.{stands, Tells}
 use Rattle.smv_meaning.specs.Items.{first_told, true_in, seen_state}
-
--- the sections of a module, none where there is no module
-abbrev pub sections_found : Option Module → List Section
-sections_found None = []
-sections_found (Some m) = m.sections
-
--- the sections of the first module of a name
-abbrev pub sections_named : Program → Name → List Section
-sections_named program name = sections_found (find (λ m. bytes_eq m.name name) program.modules)
-
--- the sections of an instance of this link
-abbrev pub sections_of_link : Program → Option Link → List Section
-sections_of_link program None = sections_named program (codes "main")
-sections_of_link program (Some link) = sections_named program link.called.now
 
 -- the sections of an instance
 abbrev pub sections_at : Program → Place → List Section

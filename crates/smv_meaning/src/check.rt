@@ -8,6 +8,7 @@ ghost use Rattle.smv_meaning.specs.Checking as checking;
 ghost use Rattle.smv_meaning.specs.Items as items;
 ghost use Rattle.smv_meaning.specs.RunCheck as check;
 ghost use Rattle.smv_meaning.specs.Scopes.{scope_seen, scopes_of as scopes_of_program};
+ghost use Rattle.smv_meaning.specs.Sections.{TellsSections};
 ghost use Rattle.smv_meaning.specs.Slots as slots;
 ghost use Rattle.smv_meaning.specs.Worth as worth;
 
@@ -16,62 +17,33 @@ use crate::net::path_texts;
 use crate::order::order_of;
 use crate::run::{Run, RunAnswer, RunState};
 use crate::scope::{Scope, scopes_of};
+use crate::sections::SectionsByName;
 use crate::standing::standing_of;
-use crate::tree::{Link, Tree, tree_of};
+use crate::tree::{Tree, tree_of};
 use crate::value::Value;
 use crate::worth::{Net, worth_of};
-use smv_ast::{List, NoMemory, Program, Section, Span, Text};
+use smv_ast::{List, NoMemory, Program, Span, Text};
 use std::alloc::Global;
-
-/// The sections of the first module of a name; none where there is no module.
-fn sections_named<'p>(program: &'p Program, name: &str) -> &'p [Section]
-    ensures { result.now ≡ check.sections_named program.now name.now }
-{
-    for owner in program.modules.as_slice() {
-        if owner.name.as_str() == name {
-            return owner.sections.as_slice();
-        }
-    }
-    &[]
-}
-
-/// The sections of an instance of this link.
-fn sections_of_link<'p>(program: &'p Program, link: Option<Link>) -> &'p [Section]
-    ensures { result.now ≡ check.sections_of_link program.now link.entry }
-{
-    match link {
-        Some(link) => sections_named(program, link.called.as_str()),
-        None => sections_named(program, "main"),
-    }
-}
-
-/// The sections of an instance.
-fn sections_of<'p>(program: &'p Program, tree: &Tree, row: usize) -> &'p [Section]
-    requires right { checking.IsRight program.now tree.now }
-    requires row { row < length tree.now.rows }
-    ensures { result.now ≡ check.sections_at program.now (checking.stands tree.now row) }
-{
-    let rows = tree.rows.as_slice();
-    sections_of_link(program, rows[row].link)
-}
 
 /// The first item that is not met in a state and the one before it, if there is one.
 fn first_broken<'t>(
     alloc: Global,
     net: &'t Net<'t>,
+    sections: &SectionsByName,
     order: &[usize],
     before: Option<View<'t>>,
     now: View<'t>,
 ) -> Result<Option<Span>, NoMemory>
     requires right { checking.IsRightNet net.now }
+    requires sections { TellsSections net.now.program.now sections.now }
     requires rows { checking.AreRows net.now.tree.now order.now }
     requires before { IfSome before (items.IsView net.now) }
     requires now { items.IsView net.now now }
     ensures { IfOk result (λ b. b ≡ check.broken_in_order net.now before.entry now.entry order.now) }
 {
     for row in order {
-        let sections = sections_of(net.program, net.tree, *row);
-        match sections_broken(alloc, net, *row, before, now, sections)? {
+        let own = sections.of_row(net.program, net.tree, *row);
+        match sections_broken(alloc, net, *row, before, now, own)? {
             Some(at) => return Ok(Some(at)),
             None => {}
         }
@@ -112,11 +84,13 @@ fn view_of<'t>(states: &'t [RunState], tables: &'t [List<Option<Value>>], k: usi
 fn run_answer<'t>(
     alloc: Global,
     net: &'t Net<'t>,
+    sections: &SectionsByName,
     order: &[usize],
     states: &'t [RunState],
     tables: &'t [List<Option<Value>>],
 ) -> Result<RunAnswer, NoMemory>
     requires right { checking.IsRightNet net.now }
+    requires sections { TellsSections net.now.program.now sections.now }
     requires rows { checking.AreRows net.now.tree.now order.now }
     requires order { map (checking.stands net.now.tree.now) order.now ≡ instances.instances net.now.program.now }
     requires tables { check.AreTables net.now states.now tables.now }
@@ -127,7 +101,7 @@ fn run_answer<'t>(
     let mut step: u32 = 0;
     for k in 0..states.len() {
         let now = view_of(states, tables, k);
-        match first_broken(alloc, net, order, before, now)? {
+        match first_broken(alloc, net, sections, order, before, now)? {
             Some(item) => return Ok(RunAnswer::Breaks { step, item }),
             None => {}
         }
@@ -147,9 +121,17 @@ fn run_in<'t>(
     requires short { length states.now < 2 ^ 32 }
     ensures { IfOk result (λ a. a ≡ spec.answer_of net.now.program.now states.now) }
 {
+    let sections = SectionsByName::of_program(alloc, net.program)?;
     let order = order_of(alloc, net.program, net.tree)?;
     let tables = tables_of(alloc, net, states)?;
-    run_answer(alloc, net, order.as_slice(), states, tables.as_slice())
+    run_answer(
+        alloc,
+        net,
+        &sections,
+        order.as_slice(),
+        states,
+        tables.as_slice(),
+    )
 }
 
 fn run_of_net(

@@ -13,6 +13,7 @@ pub mod operators;
 pub mod order;
 mod run;
 pub mod scope;
+pub mod sections;
 mod spec;
 pub mod standing;
 pub mod symbols;

@@ -1,4 +1,3 @@
 pub mod OwnLemmas
 pub mod ReadLemmas
 pub mod CountLemmas
-pub mod SectionLemmas

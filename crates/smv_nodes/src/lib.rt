@@ -5,7 +5,6 @@ mod count;
 mod own;
 mod pieces;
 mod reads;
-mod sections;
 
 pub use count::count_nodes;
 

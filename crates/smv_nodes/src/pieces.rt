@@ -1,18 +1,15 @@
 //! The expressions that the items of instances read.
 
-ghost use Rattle.std.specs.Prelude.{◌≡◌, ◌++◌, ◌∷◌, [], ◌<◌, length, OnOk, IfOk, false};
+ghost use Rattle.std.specs.Prelude.{◌≡◌, ◌++◌, ◌∷◌, [], OnOk, IfOk, false};
 ghost use Rattle.std.specs.List.{flat_map};
 ghost use Rattle.smv_meaning.specs.Checking as checking;
-ghost use Rattle.smv_meaning.specs.RunCheck as check;
-ghost use Rattle.smv_nodes.specs.Sections.{TellsSections};
 ghost use Rattle.smv_nodes.specs.Count as spec;
 ghost use Rattle.smv_nodes.specs.Held as held;
 
-use crate::sections::{sections_by_name, sections_linked};
 use smv_ast::{Expr, NoMemory, Program, Section};
+use smv_meaning::sections::SectionsByName;
 use smv_meaning::tree::Tree;
 use std::alloc::{AllocError, Global};
-use std::collections::HashMap;
 
 /// An expression that is read in the instance of a number.
 #[derive(Clone, Copy, Drop)]
@@ -86,22 +83,6 @@ fn push_sections<'a>(
     Ok(())
 }
 
-/// The sections of an instance, by those of the modules of its program.
-fn sections_of<'p>(
-    program: &Program,
-    map: &HashMap<&'p str, &'p [Section]>,
-    tree: &Tree,
-    row: usize,
-) -> &'p [Section]
-    requires right { checking.IsRight program.now tree.now }
-    requires tells { TellsSections program.now map.now }
-    requires row { row < length tree.now.rows }
-    ensures { result.now ≡ check.sections_at program.now (checking.stands tree.now row) }
-{
-    let rows = tree.rows.as_slice();
-    sections_linked(map, rows[row].link)
-}
-
 /// The pieces of the items of these instances.
 pub fn item_pieces<'p>(
     alloc: Global,
@@ -113,11 +94,11 @@ pub fn item_pieces<'p>(
     requires rows { checking.AreRows tree.now order.now }
     ensures { IfOk result (λ pieces. held.all_seen pieces.items ≡ held.table_pieces program.now tree.now order.now) }
 {
-    let map = sections_by_name(alloc, program)?;
+    let sections = SectionsByName::of_program(alloc, program)?;
     let mut pieces = Vec::new(alloc);
     for row in order {
-        let sections = sections_of(program, &map, tree, *row);
-        push_sections(&mut pieces, *row, sections)?;
+        let own = sections.of_row(program, tree, *row);
+        push_sections(&mut pieces, *row, own)?;
     }
     Ok(pieces)
 }
