@@ -1,7 +1,16 @@
 -- The circle that is printed, one thing at a time.
-use Rattle.std.proofs.Common.{◌≡◌, ℕ, suc, ◌+◌, ◌-◌, ◌^◌, ◌<◌, Bool, true, false, List, [], ◌∷◌, ◌++◌, Option, Some, None, ap, arith, if◌then◌else◌}
+use Rattle.std.proofs.Common.{◌≡◌, ℕ, suc, ◌+◌, ◌-◌, ◌^◌, ◌<◌, Bool, true, false, List, [], ◌∷◌, ◌++◌, Option, Some, None, refl, ap, arith, if◌then◌else◌}
+use Rattle.std.specs.Prelude.{◌≢◌, nat_eq}
+use Rattle.std.proofs.lemmas.Bool.{eqb-true}
 use Rattle.smv_meaning.specs.Least.{most}
 use Rattle.smv_cycles.specs.Reads.{Edge, next_of, circle_from}
+
+pub differ : (a b : ℕ) → a ≢ b → nat_eq a b ≡ false
+differ a b n = at (nat_eq a b) refl
+  where
+    at : (t : Bool) → nat_eq a b ≡ t → t ≡ false
+    at true e = absurd (n (eqb-true a b e))
+    at false e = refl
 
 pub turns_left : (turn : ℕ) → turn < 2 ^ 64 - 1 → most - turn ≡ suc (most - (turn + 1))
 unfolding most

@@ -1,5 +1,5 @@
 -- The faults by number are those of the program.
-use Rattle.std.proofs.Common.{◌≡◌, ℕ, suc, ◌+◌, ◌<◌, Bool, true, false, List, [], ◌∷◌, length, map, Option, Some, None, refl, sym, ap, ◌∙◌, subst, arith, length-append, if◌then◌else◌, nat_lt, codes}
+use Rattle.std.proofs.Common.{◌≡◌, ℕ, suc, ◌+◌, ◌<◌, Bool, true, false, List, [], ◌∷◌, length, map, Option, Some, None, refl, sym, ap, ◌∙◌, subst, arith, length-append, if◌then◌else◌, nat_eq, nat_lt, codes}
 use Rattle.std.specs.Prelude.{slice_get, IfSome}
 use Rattle.std.specs.Option.{option_map}
 use mathlib.Core.Path.{fun_ext}
@@ -25,17 +25,15 @@ use Rattle.smv_meaning.specs.Checking.{IsRight, AreRows, stands}
 use Rattle.smv_meaning.proofs.NumberLemmas.{same_meant}
 use Rattle.smv_meaning.proofs.TreeLemmas.{names_at, row_at}
 use Rattle.smv_meaning.proofs.RunLemmas.{first_mapped}
-use Rattle.smv_cycles.specs.Reads.{Edge, is_some, tallest, heights, own_circle, circle_of}
+use Rattle.smv_loops.specs.Loops.{leads}
+use Rattle.smv_cycles.specs.Reads.{Edge, tallest, heights, own_circle, circle_of}
 use Rattle.smv_cycles.specs.Held.{edges_seen, edges_at, slot_edges, edges_in}
 use Rattle.smv_cycles.specs.Cycles as spec
 use Rattle.smv_cycles.specs.HeldCycles as number
-use Rattle.smv_cycles.proofs.HeightLemmas.{then_some, in_some, no_edges, no_circle}
+use Rattle.smv_cycles.proofs.HeightLemmas.{then_some, in_some, no_edges}
+use Rattle.smv_cycles.proofs.LoopLemmas.{loop_is}
 use Rattle.smv_cycles.proofs.MovedLemmas as moved
 use Rattle.smv_cycles.proofs.ProgramLemmas as names
-
-mapped_none : {A B : Type 0} (f : A → B) (o : Option A) → option_map f o ≡ None → o ≡ None
-mapped_none f None e = refl
-mapped_none f (Some a) e = cc
 
 mapped_first : {A K L : Type 0} (f : K → L) (F : A → Option K) (G : A → Option L) → ((a : A) → option_map f (F a) ≡ G a) → (xs : List A) → option_map f (first_some F xs) ≡ first_some G xs
 mapped_first f F G h [] = refl
@@ -63,28 +61,6 @@ module _ (program : Program) (tree : Tree) (right : IsRight program tree) where
   stands_is : (row : ℕ) → row < length tree.rows → stands tree row ≡ next_place (places tree.rows) (number.link_at tree row)
   stands_is row h = let r = row_at tree.rows row h in (right.rows row r.0 r.1).stands ∙ ap (λ (o : Option Row). next_place (places tree.rows) (link_of o)) (sym r.1)
 
-  pub outer_first : number.OuterFirst tree
-  outer_first k link e = at (slice_get tree.rows k) refl e
-    where
-      outer : (row : Row) → IfSome row.link (λ l. l.outer < k) → row.link ≡ Some link → link.outer < k
-      outer row h e = subst (λ (o : Option Link). IfSome o (λ l. l.outer < k)) e h
-
-      at : (o : Option Row) → slice_get tree.rows k ≡ o → link_of o ≡ Some link → link.outer < k
-      at None g e = cc
-      at (Some row) g e = outer row (right.rows k row g).outer e
-
-  pub compares_rows : number.ComparesRows tree
-  compares_rows a b h k =
-      ap (λ (p : Place). spec.same_place p (stands tree b)) (stands_is a h)
-      ∙ (ap (spec.same_place (next_place (places tree.rows) (number.link_at tree a))) (stands_is b k)
-      ∙ links (number.link_at tree a) (number.link_at tree b))
-    where
-      links : (l m : Option Link) → spec.same_place (next_place (places tree.rows) l) (next_place (places tree.rows) m) ≡ number.same_links tree l m
-      links None None = refl
-      links None (Some m) = refl
-      links (Some l) None = refl
-      links (Some l) (Some m) = refl
-
   module_is : (row : ℕ) → row < length tree.rows → number.module_row program tree row ≡ module_at program (stands tree row)
   module_is row h = ap (module_named program) (called (number.link_at tree row) ∙ ap called_at (sym (stands_is row h)))
     where
@@ -97,7 +73,7 @@ module _ (program : Program) (tree : Tree) (right : IsRight program tree) where
       let r = row_at tree.rows row h in
       ap number.deep_found r.1 ∙ ap (λ (d : ℕ). nat_lt 1000 (d + 1)) ((right.rows row r.0 r.1).depth ∙ path_length (stands tree row))
 
-  module _ (standing : List (Option ℕ)) (tells : TellsStanding tree standing) (graph : number.Graph) (seen : map (option_map edges_seen) graph ≡ map (slot_edges tree standing) tree.slots) where
+  module _ (one : number.OneEach tree) (standing : List (Option ℕ)) (tells : TellsStanding tree standing) (graph : number.Graph) (seen : map (option_map edges_seen) graph ≡ map (slot_edges tree standing) tree.slots) where
     abbrev f : ℕ → Spot Place
     f = names.of_slot program tree right
 
@@ -113,18 +89,18 @@ module _ (program : Program) (tree : Tree) (right : IsRight program tree) where
     heights_are : (k : ℕ) → R k → heights ek k ≡ heights el (f k)
     heights_are = moved.heights_same f R ek el (names.covers program tree right standing tells graph seen) (names.inside program tree right standing tells graph seen)
 
-    own_is : (k : ℕ) → R k → option_map f (own_circle ek (number.same_slot tree) k) ≡ own_circle el spec.same_spot (f k)
-    own_is = moved.own_same f R ek el (names.covers program tree right standing tells graph seen) (names.inside program tree right standing tells graph seen) (number.same_slot tree) spec.same_spot (names.slots_same program tree right)
+    own_is : (k : ℕ) → R k → option_map f (own_circle ek nat_eq k) ≡ own_circle el spec.same_spot (f k)
+    own_is = moved.own_same f R ek el (names.covers program tree right standing tells graph seen) (names.inside program tree right standing tells graph seen) nat_eq spec.same_spot (names.slots_same program tree right one)
 
-    circle_is : (k : ℕ) → R k → map f (circle_of ek (number.same_slot tree) k) ≡ circle_of el spec.same_spot (f k)
-    circle_is k i = moved.circle_same f R ek el (names.covers program tree right standing tells graph seen) (names.inside program tree right standing tells graph seen) (number.same_slot tree) spec.same_spot (names.slots_same program tree right) k i
+    circle_is : (k : ℕ) → R k → map f (circle_of ek nat_eq k) ≡ circle_of el spec.same_spot (f k)
+    circle_is k i = moved.circle_same f R ek el (names.covers program tree right standing tells graph seen) (names.inside program tree right standing tells graph seen) nat_eq spec.same_spot (names.slots_same program tree right one) k i
 
-    circle_within : (k : ℕ) → R k → moved.AllIn f R (circle_of ek (number.same_slot tree) k)
-    circle_within k i = moved.circle_in f R ek el (names.covers program tree right standing tells graph seen) (names.inside program tree right standing tells graph seen) (number.same_slot tree) spec.same_spot (names.slots_same program tree right) k i
+    circle_within : (k : ℕ) → R k → moved.AllIn f R (circle_of ek nat_eq k)
+    circle_within k i = moved.circle_in f R ek el (names.covers program tree right standing tells graph seen) (names.inside program tree right standing tells graph seen) nat_eq spec.same_spot (names.slots_same program tree right one) k i
 
     -- ---- the first circle
 
-    name_is : (row : ℕ) → row < length tree.rows → (name : Name) → option_map f (number.name_circle tree graph row name) ≡ own_circle el spec.same_spot (record { place = stands tree row; name = name })
+    name_is : (row : ℕ) → row < length tree.rows → (name : Name) → option_map f (number.name_circle tree (number.targets graph) row name) ≡ own_circle el spec.same_spot (record { place = stands tree row; name = name })
     name_is row h name = at (slot_of tree spot) refl
       where
         spot : Spot ℕ
@@ -139,17 +115,18 @@ module _ (program : Program) (tree : Tree) (right : IsRight program tree) where
             let p : meant_at program (record { place = stands tree row; name = name }) ≡ None = sym (same_meant program tree right row name h).same ∙ ap (option_map (placed (stands tree))) m in
             no_edges el spec.same_spot (record { place = stands tree row; name = name }) (ap (λ (o : Option (Meant Place)). and_then o (spec.edges_by (meant_at program) (record { place = stands tree row; name = name }))) p)
 
-        at : (o : Option ℕ) → slot_of tree (record { place = row; name = name }) ≡ o → option_map f (number.name_circle tree graph row name) ≡ own_circle el spec.same_spot (record { place = stands tree row; name = name })
-        at None e = ap (λ (o : Option ℕ). option_map f (and_then o (own_circle ek (number.same_slot tree)))) e ∙ sym (nothing e)
+        at : (o : Option ℕ) → slot_of tree (record { place = row; name = name }) ≡ o → option_map f (number.name_circle tree (number.targets graph) row name) ≡ own_circle el spec.same_spot (record { place = stands tree row; name = name })
+        at None e = ap (λ (o : Option ℕ). option_map f (and_then o (number.if_loop (number.targets graph)))) e ∙ sym (nothing e)
         at (Some k) e =
             let i : R k = record { spot = record { place = row; name = name }; within = h; at = e } in
-            ap (λ (o : Option ℕ). option_map f (and_then o (own_circle ek (number.same_slot tree)))) e ∙ (own_is k i ∙ ap (own_circle el spec.same_spot) (names.of_is program tree right k i))
+            ap (λ (o : Option ℕ). option_map f (and_then o (number.if_loop (number.targets graph)))) e
+            ∙ (ap (option_map f) (loop_is graph k) ∙ (own_is k i ∙ ap (own_circle el spec.same_spot) (names.of_is program tree right k i)))
 
-    name_within : (row : ℕ) (name : Name) (c : ℕ) → number.name_circle tree graph row name ≡ Some c → R c
+    name_within : (row : ℕ) (name : Name) (c : ℕ) → number.name_circle tree (number.targets graph) row name ≡ Some c → R c
     name_within row name c e =
-        let r = then_some (slot_of tree (record { place = row; name = name })) (own_circle ek (number.same_slot tree)) c e in
+        let r = then_some (slot_of tree (record { place = row; name = name })) (number.if_loop (number.targets graph)) c e in
         let i = names.slot_in program tree right (record { place = row; name = name }) r.0 r.1 in
-        subst R (own (is_some _) r.2) i
+        subst R (own (leads (number.targets graph) r.0 r.0) r.2) i
       where
         own : {k : ℕ} (b : Bool) → (if b then Some k else None) ≡ Some c → k ≡ c
         own true g = in_some g
@@ -158,22 +135,22 @@ module _ (program : Program) (tree : Tree) (right : IsRight program tree) where
     abbrev place_circle : Place → Option (Spot Place)
     place_circle place = first_some (λ e. own_circle el spec.same_spot (record { place = place; name = e.name })) (entries (module_at program place))
 
-    row_is : (row : ℕ) → row < length tree.rows → option_map f (number.row_circle tree graph row (entries_at tree.rows row)) ≡ place_circle (stands tree row)
+    row_is : (row : ℕ) → row < length tree.rows → option_map f (number.row_circle tree (number.targets graph) row (entries_at tree.rows row)) ≡ place_circle (stands tree row)
     row_is row h =
-        mapped_first f (λ (e : Entry). number.name_circle tree graph row e.name) (λ (e : Entry). own_circle el spec.same_spot (record { place = stands tree row; name = e.name })) (λ e. name_is row h e.name) (entries_at tree.rows row)
+        mapped_first f (λ (e : Entry). number.name_circle tree (number.targets graph) row e.name) (λ (e : Entry). own_circle el spec.same_spot (record { place = stands tree row; name = e.name })) (λ e. name_is row h e.name) (entries_at tree.rows row)
         ∙ ap (first_some (λ (e : Entry). own_circle el spec.same_spot (record { place = stands tree row; name = e.name }))) (names_at program tree.rows row right.rows h)
 
-    rows_are : (order : List ℕ) → AreRows tree order → option_map f (number.first_circle tree graph order) ≡ first_some (λ row. place_circle (stands tree row)) order
+    rows_are : (order : List ℕ) → AreRows tree order → option_map f (number.first_circle tree (number.targets graph) order) ≡ first_some (λ row. place_circle (stands tree row)) order
     rows_are [] h = refl
-    rows_are (row ∷ order) h = at (number.row_circle tree graph row (entries_at tree.rows row)) (row_is row (h 0 0 (omega arith))) (rows_are order (λ k d g. h (suc k) d (omega arith)))
+    rows_are (row ∷ order) h = at (number.row_circle tree (number.targets graph) row (entries_at tree.rows row)) (row_is row (h 0 0 (omega arith))) (rows_are order (λ k d g. h (suc k) d (omega arith)))
       where
-        at : (o : Option ℕ) → option_map f o ≡ place_circle (stands tree row) → option_map f (number.first_circle tree graph order) ≡ first_some (λ row. place_circle (stands tree row)) order →
-            option_map f (or_else o (number.first_circle tree graph order)) ≡ or_else (place_circle (stands tree row)) (first_some (λ row. place_circle (stands tree row)) order)
+        at : (o : Option ℕ) → option_map f o ≡ place_circle (stands tree row) → option_map f (number.first_circle tree (number.targets graph) order) ≡ first_some (λ row. place_circle (stands tree row)) order →
+            option_map f (or_else o (number.first_circle tree (number.targets graph) order)) ≡ or_else (place_circle (stands tree row)) (first_some (λ row. place_circle (stands tree row)) order)
         at None e g = g ∙ ap (λ (p : Option (Spot Place)). or_else p (first_some (λ row. place_circle (stands tree row)) order)) e
         at (Some c) e g = ap (λ (p : Option (Spot Place)). or_else p (first_some (λ row. place_circle (stands tree row)) order)) e
 
-    first_within : (order : List ℕ) (c : ℕ) → number.first_circle tree graph order ≡ Some c → R c
-    first_within order c = first_is R (λ row. number.row_circle tree graph row (entries_at tree.rows row)) (λ row c. first_is R (λ (e : Entry). number.name_circle tree graph row e.name) (λ e c. name_within row e.name c) (entries_at tree.rows row) c) order c
+    first_within : (order : List ℕ) (c : ℕ) → number.first_circle tree (number.targets graph) order ≡ Some c → R c
+    first_within order c = first_is R (λ row. number.row_circle tree (number.targets graph) row (entries_at tree.rows row)) (λ row c. first_is R (λ (e : Entry). number.name_circle tree (number.targets graph) row e.name) (λ e c. name_within row e.name c) (entries_at tree.rows row) c) order c
 
     -- ---- the fault of a circle
 
@@ -198,17 +175,11 @@ module _ (program : Program) (tree : Tree) (right : IsRight program tree) where
 
     fault_is : (k : ℕ) → R k → number.circle_fault program tree graph k ≡ spec.circle_fault program (f k)
     fault_is k i =
-        ap (λ (at : Span). fault.CyclicDefine (Some at) (joined (codes ",") (number.slot_texts tree (circle_of ek (number.same_slot tree) k)))) (place_is k i)
+        ap (λ (at : Span). fault.CyclicDefine (Some at) (joined (codes ",") (number.slot_texts tree (circle_of ek nat_eq k)))) (place_is k i)
         ∙ ap (λ (ts : List (List ℕ)). fault.CyclicDefine (Some (spec.declared_at (module_at program (f k).place) (f k).name)) (joined (codes ",") ts))
-        (texts_are (circle_of ek (number.same_slot tree) k) (circle_within k i) ∙ ap (map spec.spot_text) (circle_is k i))
+        (texts_are (circle_of ek nat_eq k) (circle_within k i) ∙ ap (map spec.spot_text) (circle_is k i))
 
     module _ (table : List (Option ℕ)) (told : (k : ℕ) → entry table k ≡ heights ek k) where
-      pub skips_known : number.SkipsKnown tree graph table
-      skips_known spot k h e g =
-          let i = names.slot_in program tree right spot k e in
-          let t : heights el (f k) ≡ Some h = sym (heights_are k i) ∙ (sym (told k) ∙ g) in
-          mapped_none f (own_circle ek (number.same_slot tree) k) (own_is k i ∙ no_circle el spec.same_spot names.spot_decides (f k) h t)
-
       -- ---- nesting
 
       high_is : (row : ℕ) → row < length tree.rows → (e : Expr) → number.high_row tree standing table row e ≡ spec.high_in program (stands tree row) e
@@ -236,12 +207,12 @@ module _ (program : Program) (tree : Tree) (right : IsRight program tree) where
 
       module _ (order : List ℕ) (rows : AreRows tree order) (ordered : map (stands tree) order ≡ instances program) where
         circles_are : number.circles_fault program tree graph order ≡ and_then (spec.first_circle program) (λ spot. Some (spec.circle_fault program spot))
-        circles_are = at (number.first_circle tree graph order) refl ∙ ap (λ (o : Option (Spot Place)). and_then o (λ spot. Some (spec.circle_fault program spot))) whole
+        circles_are = at (number.first_circle tree (number.targets graph) order) refl ∙ ap (λ (o : Option (Spot Place)). and_then o (λ spot. Some (spec.circle_fault program spot))) whole
           where
-            whole : option_map f (number.first_circle tree graph order) ≡ spec.first_circle program
+            whole : option_map f (number.first_circle tree (number.targets graph) order) ≡ spec.first_circle program
             whole = rows_are order rows ∙ (sym (first_mapped place_circle (stands tree) order) ∙ ap (first_some place_circle) ordered)
 
-            at : (o : Option ℕ) → number.first_circle tree graph order ≡ o → and_then o (λ k. Some (number.circle_fault program tree graph k)) ≡ and_then (option_map f o) (λ spot. Some (spec.circle_fault program spot))
+            at : (o : Option ℕ) → number.first_circle tree (number.targets graph) order ≡ o → and_then o (λ k. Some (number.circle_fault program tree graph k)) ≡ and_then (option_map f o) (λ spot. Some (spec.circle_fault program spot))
             at None e = refl
             at (Some k) e = ap Some (fault_is k (first_within order k e))
 

@@ -1,11 +1,11 @@
 pub mod NodeLemmas
-pub mod SameLemmas
+pub mod SectionLemmas
 pub mod CircleLemmas
+pub mod WayLemmas
 pub mod TextLemmas
 pub mod HeightLemmas
-pub mod OpenLemmas
+pub mod LoopLemmas
 pub mod StandingLemmas
 pub mod MovedLemmas
 pub mod ProgramLemmas
 pub mod FaultLemmas
-pub mod MarkLemmas

@@ -1,10 +1,10 @@
 -- What the slots of a right table read is what the names of the program read.
-use Rattle.std.proofs.Common.{◌≡◌, ℕ, zero, suc, ◌+◌, ◌<◌, Bool, true, false, ◌&&◌, not, List, [], ◌∷◌, length, map, Option, Some, None, refl, sym, ap, ◌∙◌, subst, arith, if◌then◌else◌, nat_lt}
+use Rattle.std.proofs.Common.{◌≡◌, ℕ, zero, suc, ◌+◌, ◌<◌, Bool, true, false, ◌&&◌, not, List, [], ◌∷◌, length, map, Option, Some, None, refl, sym, ap, ◌∙◌, subst, arith, if◌then◌else◌, nat_eq, true≢false}
 use Rattle.std.specs.Prelude.{slice_get}
 use Rattle.std.specs.Option.{option_map}
 use Rattle.std.specs.Str.{bytes_eq}
 use Rattle.std.proofs.lemmas.Slice.Eq.{bytes_eq-Decides}
-use Rattle.std.proofs.lemmas.Bool.{lt-ltb}
+use Rattle.std.proofs.lemmas.Bool.{eqb-true, eq-eqb, and_from}
 use Rattle.smv_ast.specs.declared.syntax.Expr.{Expr}
 use Rattle.smv_ast.specs.declared.program.Program.{Program}
 use Rattle.smv_meaning.specs.declared.tree.Tree.{Tree}
@@ -26,7 +26,7 @@ use Rattle.smv_cycles.specs.Nodes.{Node, nodes_of}
 use Rattle.smv_cycles.specs.Reads.{Edge, is_some}
 use Rattle.smv_cycles.specs.Held.{edges_seen, edges_at, is_read, read_slot, slot_read, edge_in, edges_in, edges_by, slot_edges}
 use Rattle.smv_cycles.specs.Cycles as spec
-use Rattle.smv_cycles.specs.HeldCycles.{Graph, same_slot, same_found}
+use Rattle.smv_cycles.specs.HeldCycles.{Graph, OneEach}
 use Rattle.smv_cycles.proofs.HeightLemmas.{then_some, in_some}
 use Rattle.smv_cycles.proofs.StandingLemmas.{SameSpot, standing_same, leads_same}
 use Rattle.smv_cycles.proofs.MovedLemmas.{moved, TargetIn, EdgesIn}
@@ -82,6 +82,13 @@ spot_decides a b e =
   where
     same : a.place ≡ b.place → a.name ≡ b.name → a ≡ b
     same p n = ap (λ (x : Place). record { place = x; name = a.name }) p ∙ ap (λ (x : Name). record { place = b.place; name = x }) n
+
+place_self : (p : Place) → spec.same_place p p ≡ true
+place_self Main = refl
+place_self (Within p name called) = and_from (bytes_eq name name && bytes_eq called called) (spec.same_place p p) (and_from (bytes_eq name name) (bytes_eq called called) ((bytes_eq-Decides name name).1 refl) ((bytes_eq-Decides called called).1 refl)) (place_self p)
+
+spot_self : (s : Spot Place) → spec.same_spot s s ≡ true
+spot_self s = and_from (bytes_eq s.name s.name) (spec.same_place s.place s.place) ((bytes_eq-Decides s.name s.name).1 refl) (place_self s.place)
 
 module _ (program : Program) (tree : Tree) (right : IsRight program tree) where
   abbrev n : ℕ
@@ -252,15 +259,24 @@ module _ (program : Program) (tree : Tree) (right : IsRight program tree) where
       pub inside : (k : ℕ) (es : List (Edge ℕ)) → IsSlot k → edges_at graph k ≡ Some es → EdgesIn of_slot IsSlot es
       inside k es i e = (slot_reads k i).inside es e
 
-  both_within : (a b : ℕ) (c : Bool) → a < n → b < n → ((nat_lt a n && nat_lt b n) && c) ≡ c
-  both_within a b c h k = ap (λ (x : Bool). (x && nat_lt b n) && c) (lt-ltb a n h) ∙ ap (λ (x : Bool). x && c) (lt-ltb b n k)
+  -- ---- slots that are one
 
-  -- names are one where their slots tell so
-  pub slots_same : (a b : ℕ) → IsSlot a → IsSlot b → spec.same_spot (of_slot a) (of_slot b) ≡ same_slot tree a b
-  slots_same a b i j =
-      let x = slot a i in
-      let y = slot b j in
-      ap (λ (s : Spot Place). spec.same_spot s (of_slot b)) (ap spot_found (get a i))
-      ∙ (ap (spec.same_spot (placed_spot (spot_of x))) (ap spot_found (get b j))
-      ∙ (ap (λ (t : Bool). bytes_eq x.name.now y.name.now && t) (sym (both_within x.row y.row (spec.same_place (stands tree x.row) (stands tree y.row)) (row_within a i) (row_within b j)))
-      ∙ (sym (ap (λ (o : Option Slot). same_found tree o (Some y)) (get a i)) ∙ ap (λ (o : Option Slot). same_found tree (slice_get tree.slots a) o) (sym (get b j)))))
+  module _ (one : OneEach tree) where
+    pub slot_one : (a b : ℕ) → IsSlot a → IsSlot b → of_slot a ≡ of_slot b → a ≡ b
+    slot_one a b i j e =
+        let f = sym (of_is a i) ∙ (e ∙ of_is b j) in
+        let place = one i.spot.place j.spot.place i.within j.within (ap (λ (s : Spot Place). s.place) f) in
+        let spot : i.spot ≡ j.spot = ap (λ (x : ℕ). record { place = x; name = i.spot.name }) place ∙ ap (λ (x : Name). record { place = j.spot.place; name = x }) (ap (λ (s : Spot Place). s.name) f) in
+        in_some (sym i.at ∙ (ap (slot_of tree) spot ∙ j.at))
+
+    -- names are one where their slots are
+    pub slots_same : (a b : ℕ) → IsSlot a → IsSlot b → spec.same_spot (of_slot a) (of_slot b) ≡ nat_eq a b
+    slots_same a b i j = at (spec.same_spot (of_slot a) (of_slot b)) refl
+      where
+        at : (t : Bool) → spec.same_spot (of_slot a) (of_slot b) ≡ t → t ≡ nat_eq a b
+        at true e = sym (eq-eqb a b (slot_one a b i j (spot_decides (of_slot a) (of_slot b) e)))
+        at false e = other (nat_eq a b) refl
+          where
+            other : (t : Bool) → nat_eq a b ≡ t → false ≡ t
+            other false f = refl
+            other true f = let g = ap (λ (x : ℕ). spec.same_spot (of_slot a) (of_slot x)) (eqb-true a b f) in absurd (true≢false (sym (spot_self (of_slot a)) ∙ (g ∙ e)))

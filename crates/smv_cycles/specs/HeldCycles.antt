@@ -1,6 +1,7 @@
 -- Circles and nesting by the numbers of slots.
-use Rattle.std.specs.Prelude.{◌≡◌, ◌<◌, ◌+◌, ℕ, codes, Bool, true, false, not, ◌&&◌, ◌||◌, nat_lt, List, [], ◌∷◌, ◌++◌, length, map, Option, Some, None, slice_get}
-use Rattle.std.specs.Str.{bytes_eq}
+use Rattle.std.specs.Prelude.{◌≡◌, ◌<◌, ◌+◌, ℕ, codes, Bool, false, nat_eq, nat_lt, if◌then◌else◌, List, [], ◌∷◌, ◌++◌, length, map, Option, Some, None, slice_get}
+use Rattle.std.specs.List.{flat_map}
+use Rattle.std.specs.Option.{option_to_list}
 use Rattle.smv_ast.specs.declared.syntax.Expr.{Expr}
 use Rattle.smv_ast.specs.declared.syntax.Span.{Span}
 use Rattle.smv_ast.specs.declared.program.Program.{Program}
@@ -15,7 +16,6 @@ use Rattle.smv_meaning.specs.declared.tree.Row.{Row}
 use Rattle.smv_meaning.specs.declared.tree.Link.{Link}
 use Rattle.smv_meaning.specs.Value.{Name, and_then}
 use Rattle.smv_meaning.specs.Least.{entry}
-use Rattle.smv_meaning.specs.Paths.{Spot}
 use Rattle.smv_meaning.specs.Instances.{Entry, path_of, module_named}
 use Rattle.smv_meaning.specs.Slots.{slot_of}
 use Rattle.smv_meaning.specs.Runs.{or_else, first_some, path_text}
@@ -23,89 +23,47 @@ use Rattle.smv_meaning.specs.Tree.{entries_at}
 use Rattle.smv_meaning.specs.Checking.{stands}
 use Rattle.smv_meaning.specs.Worth.{link_of}
 use Rattle.smv_cycles.specs.declared.edges.Edge.{Edge as HeldEdge}
-use Rattle.smv_cycles.specs.Reads.{is_some, among, own_circle, circle_of, tallest}
+use Rattle.smv_loops.specs.Loops.{leads}
+use Rattle.smv_cycles.specs.Reads.{circle_of, tallest}
 use Rattle.smv_cycles.specs.Held.{edges_at, edges_in}
-use Rattle.smv_cycles.specs.Cycles.{same_place, is_high, nested_in, declared_at}
-
--- whether the instances of two numbers of the table are one
-abbrev pub same_row : Tree → ℕ → ℕ → Bool
-same_row tree a b = same_place (stands tree a) (stands tree b)
-
--- whether two instances are one by the links of their rows
-abbrev pub same_links : Tree → Option Link → Option Link → Bool
-same_links tree None None = true
-same_links tree (Some l) (Some m) = (bytes_eq l.name.now m.name.now && bytes_eq l.called.now m.called.now) && same_row tree l.outer m.outer
-same_links tree l m = false
+use Rattle.smv_cycles.specs.Cycles.{is_high, nested_in, declared_at}
 
 -- the link of the row of a number
 abbrev pub link_at : Tree → ℕ → Option Link
 link_at tree k = link_of (slice_get tree.rows k)
 
--- the links of the rows of the table tell which instances are one
-abbrev pub ComparesRows : Tree → Type 0
-ComparesRows tree = (a b : ℕ) → a < length tree.rows → b < length tree.rows → same_row tree a b ≡ same_links tree (link_at tree a) (link_at tree b)
-
--- each instance stands behind its outer one
-abbrev pub OuterFirst : Tree → Type 0
-OuterFirst tree = (k : ℕ) (link : Link) → link_at tree k ≡ Some link → link.outer < k
-
--- whether both numbers are in the table, and their instances are one
-abbrev pub same_known : Tree → ℕ → ℕ → Bool
-same_known tree a b = (nat_lt a (length tree.rows) && nat_lt b (length tree.rows)) && same_row tree a b
-
--- whether the names of two slots are one
-abbrev pub same_slots : Tree → Slot → Slot → Bool
-same_slots tree a b = bytes_eq a.name.now b.name.now && same_known tree a.row b.row
-
--- whether there are slots of two numbers, and their names are one
-abbrev pub same_found : Tree → Option Slot → Option Slot → Bool
-same_found tree (Some a) (Some b) = same_slots tree a b
-same_found tree a b = false
-
--- whether the names of the slots of two numbers are one
-abbrev pub same_slot : Tree → ℕ → ℕ → Bool
-same_slot tree a b = same_found tree (slice_get tree.slots a) (slice_get tree.slots b)
-
--- a mark of a slot tells whether its name is that of a printed one
-abbrev pub Marks : Tree → List ℕ → List Bool → Type 0
-Marks tree printed marks = (k : ℕ) (b : Bool) → slice_get marks k ≡ Some b → b ≡ among (same_slot tree) printed k
-
--- no mark is set
-abbrev pub IsBlank : List Bool → Type 0
-IsBlank marks = (k : ℕ) (b : Bool) → slice_get marks k ≡ Some b → b ≡ false
-
--- each mark that is set was set before, or is that of the name of this slot
-abbrev pub MarksMore : Tree → ℕ → List Bool → List Bool → Type 0
-MarksMore tree c old new = (k : ℕ) (b : Bool) → slice_get new k ≡ Some b → (a : Bool) × (slice_get old k ≡ Some a) × (b ≡ (a || same_slot tree c k))
+-- no two numbers of the table stand for one instance
+abbrev pub OneEach : Tree → Type 0
+OneEach tree = (a b : ℕ) → a < length tree.rows → b < length tree.rows → stands tree a ≡ stands tree b → a ≡ b
 
 -- what slots read, as a table tells
 abbrev pub Graph : Type 0
 Graph = List (Option (List HeldEdge))
 
+-- the slots that a slot reads
+abbrev pub targets_found : Option (List HeldEdge) → List ℕ
+targets_found None = []
+targets_found (Some edges) = flat_map (λ e. option_to_list e.target) edges
+
+-- of each slot those that it reads
+abbrev pub targets : Graph → List (List ℕ)
+targets = map targets_found
+
+-- a slot, if it leads back to itself
+abbrev pub if_loop : List (List ℕ) → ℕ → Option ℕ
+if_loop targets k = if leads targets k k then Some k else None
+
 -- the slot of a name of an instance, if the name reads itself
-abbrev pub name_circle : Tree → Graph → ℕ → Name → Option ℕ
-name_circle tree graph row name = and_then (slot_of tree (record { place = row; name = name })) (own_circle (edges_at graph) (same_slot tree))
+abbrev pub name_circle : Tree → List (List ℕ) → ℕ → Name → Option ℕ
+name_circle tree targets row name = and_then (slot_of tree (record { place = row; name = name })) (if_loop targets)
 
 -- the first slot of an instance whose name reads itself
-abbrev pub row_circle : Tree → Graph → ℕ → List Entry → Option ℕ
-row_circle tree graph row names = first_some (λ e. name_circle tree graph row e.name) names
+abbrev pub row_circle : Tree → List (List ℕ) → ℕ → List Entry → Option ℕ
+row_circle tree targets row names = first_some (λ e. name_circle tree targets row e.name) names
 
 -- the first slot of these instances whose name reads itself
-abbrev pub first_circle : Tree → Graph → List ℕ → Option ℕ
-first_circle tree graph order = first_some (λ row. row_circle tree graph row (entries_at tree.rows row)) order
-
--- whether a slot reads others and has no height that a table tells
-abbrev pub is_open : Graph → List (Option ℕ) → ℕ → Bool
-is_open graph table k = is_some (edges_at graph k) && not (is_some (entry table k))
-
--- none of the first so many slots does
-abbrev pub NoneOpen : Graph → List (Option ℕ) → ℕ → Type 0
-NoneOpen graph table n = (k : ℕ) → k < n → is_open graph table k ≡ false
-
--- a name that has a height does not read itself
-abbrev pub SkipsKnown : Tree → Graph → List (Option ℕ) → Type 0
-SkipsKnown tree graph table =
-    (spot : Spot ℕ) (k h : ℕ) → slot_of tree spot ≡ Some k → entry table k ≡ Some h → own_circle (edges_at graph) (same_slot tree) k ≡ None
+abbrev pub first_circle : Tree → List (List ℕ) → List ℕ → Option ℕ
+first_circle tree targets order = first_some (λ row. row_circle tree targets row (entries_at tree.rows row)) order
 
 -- the path of a name of the instance of a row, as it is printed, none where there is no row
 abbrev pub row_name_text : Tree → ℕ → Name → Option Row → List ℕ
@@ -163,11 +121,11 @@ slot_place program tree (Some slot) = declared_at (module_row program tree slot.
 -- the fault of the slot of a name that reads itself
 abbrev pub circle_fault : Program → Tree → Graph → ℕ → Fault
 circle_fault program tree graph k =
-    fault.CyclicDefine (Some (slot_place program tree (slice_get tree.slots k))) (joined (codes ",") (slot_texts tree (circle_of (edges_at graph) (same_slot tree) k)))
+    fault.CyclicDefine (Some (slot_place program tree (slice_get tree.slots k))) (joined (codes ",") (slot_texts tree (circle_of (edges_at graph) nat_eq k)))
 
 -- the fault of circles, by number
 abbrev pub circles_fault : Program → Tree → Graph → List ℕ → Option Fault
-circles_fault program tree graph order = and_then (first_circle tree graph order) (λ k. Some (circle_fault program tree graph k))
+circles_fault program tree graph order = and_then (first_circle tree (targets graph) order) (λ k. Some (circle_fault program tree graph k))
 
 -- the fault of nesting, by number
 abbrev pub nesting_fault : Program → Tree → List (Option ℕ) → List (Option ℕ) → List ℕ → Option Fault

@@ -4,4 +4,5 @@ pub mod ReadsGrow
 pub mod Held
 pub mod Cycles
 pub mod HeldCycles
+pub mod Ways
 pub mod HeldNests

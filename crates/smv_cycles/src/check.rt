@@ -1,6 +1,6 @@
 //! The checks of what reads itself and of what nests too deep.
 
-ghost use Rattle.std.specs.Prelude.{◌≡◌, ℕ, ◌<◌, Bool, false, IfOk, length, map, slice_get};
+ghost use Rattle.std.specs.Prelude.{◌≡◌, ◌<◌, IfOk, length, map};
 ghost use Rattle.smv_meaning.specs.Faults.{TellsFirst};
 ghost use Rattle.smv_meaning.specs.Instances.{instances};
 ghost use Rattle.smv_meaning.specs.Checking as checking;
@@ -11,14 +11,14 @@ ghost use Rattle.smv_meaning.specs.Entries.{all_seen};
 ghost use Rattle.smv_cycles.specs.Cycles.{cycles_fault};
 ghost use Rattle.smv_cycles.specs.HeldCycles as held;
 
-use crate::circle::{circle_of, own_circle};
-use crate::edges::{Edge, graph_of};
+use crate::circle::circle_of;
+use crate::edges::{Edge, graph_of, targets_of};
 use crate::heights::heights_of;
 use crate::nesting::nested_rows;
 use crate::places::slot_place;
 use crate::texts::circle_text;
-use crate::visits::visits_of;
 use smv_ast::{Fault, List, NoMemory, Program};
+use smv_loops::Loops;
 use smv_meaning::entries::Entry;
 use smv_meaning::net::path_texts;
 use smv_meaning::standing::slot_of;
@@ -26,48 +26,21 @@ use smv_meaning::tree::Tree;
 use sqlite_items::at;
 use std::alloc::Global;
 
-/// Whether a slot reads others and has no height that is known.
-fn is_open(graph: &[Option<List<Edge>>], heights: &[Option<usize>], k: usize) -> bool
-    ensures { result ≡ held.is_open graph.now heights.now k }
-{
-    match at(graph, k) {
-        Some(Some(_)) => at(heights, k).copied().flatten().is_none(),
-        _ => false,
-    }
-}
-
-/// Whether there is such a slot.
-fn any_open(graph: &[Option<List<Edge>>], heights: &[Option<usize>]) -> bool
-    ensures { result ≡ false → held.NoneOpen graph.now heights.now (length graph.now) }
-{
-    for k in 0..graph.len() {
-        if is_open(graph, heights, k) {
-            return true;
-        }
-    }
-    false
-}
-
 /// The slot of a name of an instance, if the name reads itself.
 fn name_circle(
     alloc: Global,
     tree: &Tree,
-    graph: &[Option<List<Edge>>],
-    visits: &[usize],
-    heights: &[Option<usize>],
+    loops: &Loops,
     row: usize,
     name: &str,
 ) -> Result<Option<usize>, NoMemory>
     requires has { slots.HasSlots tree.now }
-    requires outer { held.OuterFirst tree.now }
-    requires compares { held.ComparesRows tree.now }
-    requires skips { held.SkipsKnown tree.now graph.now heights.now }
-    ensures { IfOk result (λ k. k ≡ held.name_circle tree.now graph.now row name.now) }
+    ensures { IfOk result (λ k. k ≡ held.name_circle tree.now loops.now.graph.now row name.now) }
 {
     match slot_of(tree, row, name) {
         Some(k) => {
-            if is_open(graph, heights, k) {
-                own_circle(alloc, tree, graph, visits, k)
+            if loops.leads_back(alloc, k)? {
+                Ok(Some(k))
             } else {
                 Ok(None)
             }
@@ -80,28 +53,15 @@ fn name_circle(
 fn names_circle(
     alloc: Global,
     tree: &Tree,
-    graph: &[Option<List<Edge>>],
-    visits: &[usize],
-    heights: &[Option<usize>],
+    loops: &Loops,
     row: usize,
     entries: &[Entry],
 ) -> Result<Option<usize>, NoMemory>
     requires has { slots.HasSlots tree.now }
-    requires outer { held.OuterFirst tree.now }
-    requires compares { held.ComparesRows tree.now }
-    requires skips { held.SkipsKnown tree.now graph.now heights.now }
-    ensures { IfOk result (λ k. k ≡ held.row_circle tree.now graph.now row (all_seen entries.now)) }
+    ensures { IfOk result (λ k. k ≡ held.row_circle tree.now loops.now.graph.now row (all_seen entries.now)) }
 {
     for entry in entries {
-        match name_circle(
-            alloc,
-            tree,
-            graph,
-            visits,
-            heights,
-            row,
-            entry.name.as_str(),
-        )? {
+        match name_circle(alloc, tree, loops, row, entry.name.as_str())? {
             Some(k) => return Ok(Some(k)),
             None => {}
         }
@@ -113,66 +73,35 @@ fn names_circle(
 fn row_circle(
     alloc: Global,
     tree: &Tree,
-    graph: &[Option<List<Edge>>],
-    visits: &[usize],
-    heights: &[Option<usize>],
+    loops: &Loops,
     row: usize,
 ) -> Result<Option<usize>, NoMemory>
     requires has { slots.HasSlots tree.now }
-    requires outer { held.OuterFirst tree.now }
-    requires compares { held.ComparesRows tree.now }
-    requires skips { held.SkipsKnown tree.now graph.now heights.now }
-    ensures { IfOk result (λ k. k ≡ held.row_circle tree.now graph.now row (entries_at tree.now.rows row)) }
+    ensures { IfOk result (λ k. k ≡ held.row_circle tree.now loops.now.graph.now row (entries_at tree.now.rows row)) }
 {
     match at(tree.rows.as_slice(), row).copied() {
-        Some(found) => names_circle(alloc, tree, graph, visits, heights, row, found.entries()),
+        Some(found) => names_circle(alloc, tree, loops, row, found.entries()),
         None => Ok(None),
     }
-}
-
-fn rows_circle(
-    alloc: Global,
-    tree: &Tree,
-    graph: &[Option<List<Edge>>],
-    visits: &[usize],
-    heights: &[Option<usize>],
-    order: &[usize],
-) -> Result<Option<usize>, NoMemory>
-    requires has { slots.HasSlots tree.now }
-    requires outer { held.OuterFirst tree.now }
-    requires compares { held.ComparesRows tree.now }
-    requires skips { held.SkipsKnown tree.now graph.now heights.now }
-    ensures { IfOk result (λ k. k ≡ held.first_circle tree.now graph.now order.now) }
-{
-    for row in order {
-        match row_circle(alloc, tree, graph, visits, heights, *row)? {
-            Some(k) => return Ok(Some(k)),
-            None => {}
-        }
-    }
-    Ok(None)
 }
 
 /// The first name that reads itself, in the order of these instances.
 fn first_circle(
     alloc: Global,
     tree: &Tree,
-    graph: &[Option<List<Edge>>],
-    visits: &[usize],
-    heights: &[Option<usize>],
+    loops: &Loops,
     order: &[usize],
 ) -> Result<Option<usize>, NoMemory>
     requires has { slots.HasSlots tree.now }
-    requires outer { held.OuterFirst tree.now }
-    requires compares { held.ComparesRows tree.now }
-    requires skips { held.SkipsKnown tree.now graph.now heights.now }
-    ensures { IfOk result (λ k. k ≡ held.first_circle tree.now graph.now order.now) }
+    ensures { IfOk result (λ k. k ≡ held.first_circle tree.now loops.now.graph.now order.now) }
 {
-    if any_open(graph, heights) {
-        rows_circle(alloc, tree, graph, visits, heights, order)
-    } else {
-        Ok(None)
+    for row in order {
+        match row_circle(alloc, tree, loops, *row)? {
+            Some(k) => return Ok(Some(k)),
+            None => {}
+        }
     }
+    Ok(None)
 }
 
 /// The fault of a name that reads itself.
@@ -181,16 +110,14 @@ fn circle_fault(
     program: &Program,
     tree: &Tree,
     graph: &[Option<List<Edge>>],
-    visits: &[usize],
+    order: &[usize],
     k: usize,
 ) -> Result<Fault, NoMemory>
     requires linked { worth.AreLinked tree.now.rows }
-    requires outer { held.OuterFirst tree.now }
-    requires compares { held.ComparesRows tree.now }
     ensures { IfOk result (λ f. f ≡ held.circle_fault program.now tree.now graph.now k) }
 {
     let texts = path_texts(alloc, tree.rows.as_slice())?;
-    let circle = circle_of(alloc, tree, graph, visits, k)?;
+    let circle = circle_of(alloc, graph, order, k)?;
     let cycle = circle_text(alloc, tree, texts.as_slice(), circle.as_slice())?;
     Ok(Fault::CyclicDefine {
         at: Some(slot_place(program, tree, k)),
@@ -204,19 +131,16 @@ fn check_circles(
     tree: &Tree,
     order: &[usize],
     graph: &[Option<List<Edge>>],
-    visits: &[usize],
-    heights: &[Option<usize>],
+    loops: &Loops,
 ) -> Result<(), Fault>
     requires has { slots.HasSlots tree.now }
     requires linked { worth.AreLinked tree.now.rows }
-    requires outer { held.OuterFirst tree.now }
-    requires compares { held.ComparesRows tree.now }
-    requires skips { held.SkipsKnown tree.now graph.now heights.now }
+    requires loops { loops.now.graph.now ≡ held.targets graph.now }
     ensures { TellsFirst (held.circles_fault program.now tree.now graph.now order.now) result }
 {
-    match first_circle(alloc, tree, graph, visits, heights, order)? {
+    match first_circle(alloc, tree, loops, order)? {
         Some(k) => {
-            let fault = circle_fault(alloc, program, tree, graph, visits, k)?;
+            let fault = circle_fault(alloc, program, tree, graph, loops.order(), k)?;
             Err(fault)
         }
         None => Ok(()),
@@ -248,18 +172,16 @@ fn check_graph(
     order: &[usize],
     standing: &[Option<usize>],
     graph: &[Option<List<Edge>>],
-    visits: &[usize],
+    loops: &Loops,
     heights: &[Option<usize>],
 ) -> Result<(), Fault>
     requires has { slots.HasSlots tree.now }
     requires tells { slots.TellsStanding tree.now standing.now }
     requires linked { worth.AreLinked tree.now.rows }
-    requires outer { held.OuterFirst tree.now }
-    requires compares { held.ComparesRows tree.now }
-    requires skips { held.SkipsKnown tree.now graph.now heights.now }
+    requires loops { loops.now.graph.now ≡ held.targets graph.now }
     ensures { TellsFirst (held.graph_fault program.now tree.now standing.now graph.now heights.now order.now) result }
 {
-    check_circles(alloc, program, tree, order, graph, visits, heights)?;
+    check_circles(alloc, program, tree, order, graph, loops)?;
     check_nesting(alloc, program, tree, order, standing, heights)
 }
 
@@ -267,7 +189,7 @@ fn check_graph(
 /// whether an expression of an instance is higher than 1,000 through what it reads, or the path of
 /// an instance has more than 1,000 names. The fault is the first of these: CyclicDefine with the
 /// circle of the first such name in the order of the instances, else TooNested at the first such
-/// item. Memory may run out.
+/// item. Memory may run out. The table is to have each instance once.
 pub fn check_cycles(
     alloc: Global,
     program: &Program,
@@ -276,14 +198,16 @@ pub fn check_cycles(
     standing: &[Option<usize>],
 ) -> Result<(), Fault>
     requires right { checking.IsRight program.now tree.now }
+    requires one { held.OneEach tree.now }
     requires rows { checking.AreRows tree.now order.now }
     requires order { map (checking.stands tree.now) order.now ≡ instances program.now }
     requires standing { slots.TellsStanding tree.now standing.now }
     ensures { TellsFirst (cycles_fault program.now) result }
 {
     let graph = graph_of(alloc, tree, standing)?;
-    let visits = visits_of(alloc, graph.as_slice())?;
-    let heights = heights_of(alloc, graph.as_slice(), visits.as_slice())?;
+    let targets = targets_of(alloc, graph.as_slice())?;
+    let loops = Loops::of_graph(alloc, targets.as_slice())?;
+    let heights = heights_of(alloc, graph.as_slice(), loops.order())?;
     check_graph(
         alloc,
         program,
@@ -291,7 +215,7 @@ pub fn check_cycles(
         order,
         standing,
         graph.as_slice(),
-        visits.as_slice(),
+        &loops,
         heights.as_slice(),
     )
 }

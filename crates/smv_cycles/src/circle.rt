@@ -1,49 +1,32 @@
-//! Names that read themselves, directly or through others.
+//! The circle of a name that reads itself.
 
-ghost use Rattle.std.specs.Prelude.{◌≡◌, ℕ, List, [], ◌∷◌, Bool, Some, IfOk, IfSome, length, map};
+ghost use Rattle.std.specs.Prelude.{◌≡◌, ℕ, List, [], ◌∷◌, Bool, Some, nat_eq, IfOk, IfSome, length, map};
 ghost use Rattle.smv_meaning.specs.Least.{entry};
 ghost use Rattle.smv_cycles.specs.Reads as spec;
 ghost use Rattle.smv_cycles.specs.Held as held;
-ghost use Rattle.smv_cycles.specs.HeldCycles as cycles;
 
 use crate::edges::Edge;
-use crate::same::same_slot;
+use crate::walk::way_back;
+use crate::ways::is_way;
 use smv_ast::{List, NoMemory};
 use smv_meaning::least::{Step, fill};
-use smv_meaning::tree::Tree;
 use sqlite_items::at;
 use std::alloc::Global;
 
-/// The search for a way to a goal: what slots read, and which of them are printed already, also as
-/// marks by the number of the slot.
+/// The search for a way to a goal by tables: what slots read, and which of them are printed already.
 #[derive(Clone, Copy, Drop)]
 pub struct Search<'t> {
-    pub tree: &'t Tree<'t, 't>,
     pub graph: &'t [Option<List<Edge>>],
     pub goal: usize,
     pub printed: &'t [usize],
-    pub marks: &'t [bool],
-    ghost outer: { cycles.OuterFirst tree.now },
-    ghost compares: { cycles.ComparesRows tree.now },
-    ghost marked: { cycles.Marks tree.now printed.now marks.now },
 }
 
 impl<'t> Search<'t> {
-    /// Whether a slot is printed. A slot without a mark is looked for.
     fn is_printed(&self, c: usize) -> bool
-        ensures { result ≡ spec.among (cycles.same_slot self.now.tree.now) self.now.printed.now c }
-    {
-        match at(self.marks, c).copied() {
-            Some(mark) => mark,
-            None => self.is_found(c),
-        }
-    }
-
-    fn is_found(&self, c: usize) -> bool
-        ensures { result ≡ spec.among (cycles.same_slot self.now.tree.now) self.now.printed.now c }
+        ensures { result ≡ spec.among nat_eq self.now.printed.now c }
     {
         for p in self.printed {
-            if same_slot(self.tree, *p, c) {
+            if *p == c {
                 return true;
             }
         }
@@ -52,9 +35,9 @@ impl<'t> Search<'t> {
 
     /// Whether a slot is the goal, or is not printed and is known to lead to it.
     fn leads_on(&self, table: &[Option<bool>], c: usize) -> bool
-        ensures { result ≡ spec.leads_on (cycles.same_slot self.now.tree.now) self.now.goal self.now.printed.now (entry table.now) c }
+        ensures { result ≡ spec.leads_on nat_eq self.now.goal self.now.printed.now (entry table.now) c }
     {
-        if same_slot(self.tree, self.goal, c) {
+        if self.goal == c {
             return true;
         }
         if at(table, c).copied().flatten().is_none() {
@@ -64,7 +47,7 @@ impl<'t> Search<'t> {
     }
 
     fn step_on(&self, table: &[Option<bool>], target: Option<usize>) -> Option<usize>
-        ensures { result ≡ spec.step_on (cycles.same_slot self.now.tree.now) self.now.goal self.now.printed.now (entry table.now) target }
+        ensures { result ≡ spec.step_on nat_eq self.now.goal self.now.printed.now (entry table.now) target }
     {
         match target {
             Some(c) => {
@@ -80,7 +63,7 @@ impl<'t> Search<'t> {
 
     /// The first slot that one of these nodes reads and that leads on to the goal.
     fn first_on(&self, table: &[Option<bool>], edges: &[Edge]) -> Option<usize>
-        ensures { result ≡ spec.first_on (cycles.same_slot self.now.tree.now) self.now.goal self.now.printed.now (entry table.now) (held.edges_seen edges.now) }
+        ensures { result ≡ spec.first_on nat_eq self.now.goal self.now.printed.now (entry table.now) (held.edges_seen edges.now) }
     {
         for edge in edges {
             match self.step_on(table, edge.target) {
@@ -93,7 +76,7 @@ impl<'t> Search<'t> {
 
     /// The first slot that a slot reads and that leads on to the goal, as far as the table knows.
     fn next_by(&self, table: &[Option<bool>], k: usize) -> Option<usize>
-        ensures { result ≡ spec.next_by (held.edges_at self.now.graph.now) (cycles.same_slot self.now.tree.now) self.now.goal self.now.printed.now (entry table.now) k }
+        ensures { result ≡ spec.next_by (held.edges_at self.now.graph.now) nat_eq self.now.goal self.now.printed.now (entry table.now) k }
     {
         match at(self.graph, k) {
             Some(Some(edges)) => self.first_on(table, edges.as_slice()),
@@ -103,7 +86,7 @@ impl<'t> Search<'t> {
 
     /// Which slots lead to the goal.
     fn closing(&self, alloc: Global, order: &[usize]) -> Result<List<Option<bool>>, NoMemory>
-        ensures { IfOk result (λ table. (k : ℕ) → entry table k ≡ spec.closes (held.edges_at self.now.graph.now) (cycles.same_slot self.now.tree.now) self.now.goal self.now.printed.now k) }
+        ensures { IfOk result (λ table. (k : ℕ) → entry table k ≡ spec.closes (held.edges_at self.now.graph.now) nat_eq self.now.goal self.now.printed.now k) }
     {
         let table = fill(alloc, self, self.graph.len(), order)?;
         Ok(table)
@@ -111,14 +94,14 @@ impl<'t> Search<'t> {
 }
 
 impl<'t> Step<bool> for Search<'t> {
+    ghost use Rattle.std.specs.Prelude.{nat_eq};
     ghost use Rattle.smv_cycles.specs.Reads.{closing_step};
     ghost use Rattle.smv_cycles.specs.ReadsGrow.{closing_grows};
     ghost use Rattle.smv_cycles.specs.Held.{edges_at};
-    ghost use Rattle.smv_cycles.specs.HeldCycles.{same_slot as same_slot_of};
 
-    ghost step = { λ me. closing_step (edges_at me.graph.now) (same_slot_of me.tree.now) me.goal me.printed.now };
+    ghost step = { λ me. closing_step (edges_at me.graph.now) nat_eq me.goal me.printed.now };
 
-    ghost grows = { λ me. closing_grows (edges_at me.graph.now) (same_slot_of me.tree.now) me.goal me.printed.now };
+    ghost grows = { λ me. closing_grows (edges_at me.graph.now) nat_eq me.goal me.printed.now };
 
     fn step(
         &self,
@@ -133,117 +116,44 @@ impl<'t> Step<bool> for Search<'t> {
     }
 }
 
-/// The slot, if its name reads itself.
-pub fn own_circle(
-    alloc: Global,
-    tree: &Tree,
-    graph: &[Option<List<Edge>>],
-    order: &[usize],
-    k: usize,
-) -> Result<Option<usize>, NoMemory>
-    requires outer { cycles.OuterFirst tree.now }
-    requires compares { cycles.ComparesRows tree.now }
-    ensures { IfOk result (λ c. c ≡ spec.own_circle (held.edges_at graph.now) (cycles.same_slot tree.now) k) }
-{
-    let search = Search {
-        tree,
-        graph,
-        goal: k,
-        printed: &[],
-        marks: &[],
-    };
-    let table = search.closing(alloc, order)?;
-    match at(table.as_slice(), k).copied().flatten() {
-        Some(_) => Ok(Some(k)),
-        None => Ok(None),
-    }
-}
-
 /// The slot that is printed behind another one.
 fn next_of(
     alloc: Global,
-    tree: &Tree,
     graph: &[Option<List<Edge>>],
     order: &[usize],
     goal: usize,
     printed: &[usize],
-    marks: &[bool],
     k: usize,
 ) -> Result<Option<usize>, NoMemory>
-    requires outer { cycles.OuterFirst tree.now }
-    requires compares { cycles.ComparesRows tree.now }
-    requires marked { cycles.Marks tree.now printed.now marks.now }
-    ensures { IfOk result (λ c. c ≡ spec.next_of (held.edges_at graph.now) (cycles.same_slot tree.now) goal printed.now k) }
+    ensures { IfOk result (λ c. c ≡ spec.next_of (held.edges_at graph.now) nat_eq goal printed.now k) }
 {
     let search = Search {
-        tree,
         graph,
         goal,
         printed,
-        marks,
     };
     let table = search.closing(alloc, order)?;
     Ok(search.next_by(table.as_slice(), k))
 }
 
-/// A mark for each slot, none of them set.
-fn blank(alloc: Global, count: usize) -> Result<List<bool>, NoMemory>
-    ensures { IfOk result (λ marks. cycles.IsBlank marks) }
-{
-    let mut marks = List::new(alloc);
-    for _slot in 0..count {
-        marks.push(false)?;
-    }
-    Ok(marks)
-}
-
-/// The marks, with those of a slot's name set as well.
-fn marked(alloc: Global, tree: &Tree, marks: &[bool], c: usize) -> Result<List<bool>, NoMemory>
-    requires outer { cycles.OuterFirst tree.now }
-    requires compares { cycles.ComparesRows tree.now }
-    ensures { IfOk result (λ more. cycles.MarksMore tree.now c marks.now more) }
-{
-    let mut more = List::new(alloc);
-    for k in 0..marks.len() {
-        more.push(marks[k] || same_slot(tree, c, k))?;
-    }
-    Ok(more)
-}
-
-/// The circle of a slot whose name reads itself.
-pub fn circle_of(
+/// The circle, slot by slot, with a table for each.
+fn circle_by_tables(
     alloc: Global,
-    tree: &Tree,
     graph: &[Option<List<Edge>>],
     order: &[usize],
     goal: usize,
 ) -> Result<List<usize>, NoMemory>
-    requires outer { cycles.OuterFirst tree.now }
-    requires compares { cycles.ComparesRows tree.now }
-    ensures { IfOk result (λ c. c ≡ spec.circle_of (held.edges_at graph.now) (cycles.same_slot tree.now) goal) }
+    ensures { IfOk result (λ c. c ≡ spec.circle_of (held.edges_at graph.now) nat_eq goal) }
 {
     let mut circle = List::new(alloc);
     circle.push(goal)?;
-    let blank = blank(alloc, graph.len())?;
-    let mut marks = marked(alloc, tree, blank.as_slice(), goal)?;
     let mut last = goal;
     for _turn in 0..usize::MAX {
-        let next = next_of(
-            alloc,
-            tree,
-            graph,
-            order,
-            goal,
-            circle.as_slice(),
-            marks.as_slice(),
-            last,
-        )?;
-        match next {
+        match next_of(alloc, graph, order, goal, circle.as_slice(), last)? {
             Some(c) => {
-                if same_slot(tree, goal, c) {
+                if goal == c {
                     return Ok(circle);
                 }
-                marks = marked(alloc, tree, marks.as_slice(), c)?;
                 circle.push(c)?;
                 last = c;
             }
@@ -252,4 +162,20 @@ pub fn circle_of(
     }
     // No circle in memory is so long.
     Err(NoMemory)
+}
+
+/// The circle of a slot whose name reads itself: the way that was found by a walk, where it is shown to be the circle.
+pub fn circle_of(
+    alloc: Global,
+    graph: &[Option<List<Edge>>],
+    order: &[usize],
+    goal: usize,
+) -> Result<List<usize>, NoMemory>
+    ensures { IfOk result (λ c. c ≡ spec.circle_of (held.edges_at graph.now) nat_eq goal) }
+{
+    let way = way_back(alloc, graph, goal)?;
+    if is_way(graph, goal, &way) {
+        return Ok(way.slots);
+    }
+    circle_by_tables(alloc, graph, order, goal)
 }

@@ -1,9 +1,11 @@
 //! What the names of instances read.
 
 ghost use Rattle.std.specs.Prelude.{◌≡◌, List, ℕ, IfOk, map};
-ghost use Rattle.std.specs.Option.{option_map};
+ghost use Rattle.std.specs.List.{flat_map};
+ghost use Rattle.std.specs.Option.{option_map, option_to_list};
 ghost use Rattle.smv_meaning.specs.Slots as slots;
 ghost use Rattle.smv_cycles.specs.Held as spec;
+ghost use Rattle.smv_cycles.specs.HeldCycles as cycles;
 ghost use Rattle.smv_cycles.specs.Nodes as trees;
 
 use crate::nodes::{Node, nodes_of};
@@ -141,4 +143,42 @@ pub fn graph_of(
         graph.push(slot_edges(alloc, tree, standing, *slot)?)?;
     }
     Ok(graph)
+}
+
+/// The slots that these nodes read.
+fn targets_in(alloc: Global, edges: &[Edge]) -> Result<List<usize>, NoMemory>
+    ensures { IfOk result (λ targets. targets ≡ flat_map (λ e. option_to_list e.target) edges.now) }
+{
+    let mut targets = List::new(alloc);
+    for edge in edges {
+        match edge.target {
+            Some(k) => targets.push(k)?,
+            None => {}
+        }
+    }
+    Ok(targets)
+}
+
+/// The slots that a slot reads.
+fn slot_targets(alloc: Global, edges: &Option<List<Edge>>) -> Result<List<usize>, NoMemory>
+    ensures { IfOk result (λ targets. targets ≡ cycles.targets_found edges.now) }
+{
+    match edges {
+        Some(edges) => targets_in(alloc, edges.as_slice()),
+        None => Ok(List::new(alloc)),
+    }
+}
+
+/// Of each slot those that it reads.
+pub fn targets_of(
+    alloc: Global,
+    graph: &[Option<List<Edge>>],
+) -> Result<List<List<usize>>, NoMemory>
+    ensures { IfOk result (λ targets. targets ≡ cycles.targets graph.now) }
+{
+    let mut targets = List::new(alloc);
+    for edges in graph {
+        targets.push(slot_targets(alloc, edges)?)?;
+    }
+    Ok(targets)
 }

@@ -9,11 +9,8 @@ mod nest;
 mod nesting;
 mod nodes;
 mod places;
-mod same;
 mod texts;
-mod visits;
+mod walk;
+mod ways;
 
 pub use check::check_cycles;
-
-#[cfg(test)]
-mod tests;

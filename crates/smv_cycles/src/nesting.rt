@@ -2,6 +2,7 @@
 
 ghost use Rattle.std.specs.Prelude.{◌≡◌, IfOk, map};
 ghost use Rattle.std.specs.List.{list_any};
+ghost use Rattle.smv_meaning.specs.Sections.{TellsSections};
 ghost use Rattle.smv_meaning.specs.Slots as slots;
 ghost use Rattle.smv_cycles.specs.Cycles as spec;
 ghost use Rattle.smv_cycles.specs.HeldCycles as held;
@@ -14,6 +15,7 @@ use crate::places::sections_row;
 use smv_ast::{
     Assignment, Declaration, Declared, Definition, Expr, NoMemory, Program, Section, Span,
 };
+use smv_meaning::sections::SectionsByName;
 use smv_meaning::tree::Tree;
 use sqlite_items::at;
 use std::alloc::Global;
@@ -172,11 +174,13 @@ fn deep_row(tree: &Tree, row: usize) -> Result<bool, NoMemory>
 fn nested_row(
     alloc: Global,
     program: &Program,
+    sections: &SectionsByName,
     tree: &Tree,
     standing: &[Option<usize>],
     heights: &[Option<usize>],
     row: usize,
 ) -> Result<Option<Span>, NoMemory>
+    requires sections { TellsSections program.now sections.now }
     requires has { slots.HasSlots tree.now }
     requires tells { slots.TellsStanding tree.now standing.now }
     ensures { IfOk result (λ s. s ≡ held.nested_row program.now tree.now standing.now heights.now row) }
@@ -189,7 +193,7 @@ fn nested_row(
         row,
         deep,
     };
-    nest.sections(alloc, sections_row(program, tree, row))
+    nest.sections(alloc, sections_row(program, sections, tree, row))
 }
 
 /// The first item that nests too deep, in the order of these instances.
@@ -205,8 +209,9 @@ pub fn nested_rows(
     requires tells { slots.TellsStanding tree.now standing.now }
     ensures { IfOk result (λ s. s ≡ held.nested_rows program.now tree.now standing.now heights.now order.now) }
 {
+    let sections = SectionsByName::of_program(alloc, program)?;
     for row in order {
-        match nested_row(alloc, program, tree, standing, heights, *row)? {
+        match nested_row(alloc, program, &sections, tree, standing, heights, *row)? {
             Some(at) => return Ok(Some(at)),
             None => {}
         }

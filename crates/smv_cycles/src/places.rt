@@ -3,11 +3,12 @@
 ghost use Rattle.std.specs.Prelude.{◌≡◌, map, find, slice_get};
 ghost use Rattle.std.specs.Option.{option_copied};
 ghost use Rattle.std.specs.Str.{bytes_eq};
+ghost use Rattle.smv_meaning.specs.Sections.{TellsSections};
 ghost use Rattle.smv_cycles.specs.Cycles as spec;
 ghost use Rattle.smv_cycles.specs.HeldCycles as held;
 
-use crate::same::link_at;
 use smv_ast::{Declaration, Definition, Module, Program, Section, Span, Text};
+use smv_meaning::sections::SectionsByName;
 use smv_meaning::tree::{Link, Tree};
 use sqlite_items::at;
 
@@ -80,7 +81,7 @@ pub fn declared_at(owner: &Module, name: &str) -> Span
 }
 
 /// The first module of a name, if there is one.
-pub fn module_named<'p>(program: &'p Program, name: &str) -> Option<&'p Module>
+fn module_named<'p>(program: &'p Program, name: &str) -> Option<&'p Module>
     ensures { option_copied result ≡ find (λ m. bytes_eq m.name name.now) program.now.modules }
 {
     for owner in program.modules.as_slice() {
@@ -89,6 +90,16 @@ pub fn module_named<'p>(program: &'p Program, name: &str) -> Option<&'p Module>
         }
     }
     None
+}
+
+/// The link of the row of a number, if there is one.
+fn link_at<'s, 'a>(tree: &Tree<'s, 'a>, row: usize) -> Option<Link<'a>>
+    ensures { result ≡ held.link_at tree.now row }
+{
+    match at(tree.rows.as_slice(), row).copied() {
+        Some(found) => found.link,
+        None => None,
+    }
 }
 
 /// The name of the module of an instance of this link.
@@ -108,14 +119,17 @@ fn called_row<'s, 'a>(tree: &Tree<'s, 'a>, row: usize) -> &'a str
     called_of(link_at(tree, row))
 }
 
-/// The sections of the module of the row of a number.
-pub fn sections_row<'p>(program: &'p Program, tree: &Tree, row: usize) -> &'p [Section]
+/// The sections of the module of the row of a number. The program is there for the contract alone.
+pub fn sections_row<'p>(
+    program: &Program,
+    sections: &SectionsByName<'p>,
+    tree: &Tree,
+    row: usize,
+) -> &'p [Section]
+    requires { TellsSections program.now sections.now }
     ensures { result.now ≡ (held.module_row program.now tree.now row).sections }
 {
-    match module_named(program, called_row(tree, row)) {
-        Some(owner) => owner.sections.as_slice(),
-        None => &[],
-    }
+    sections.of_link(link_at(tree, row))
 }
 
 /// Where the module of the row of a number declares a name.

@@ -137,8 +137,8 @@ seen_program s = s.known.now.program.now
 -- what is held of the program is right, the set has the names of the module, and the numbers are those of its instances
 pub record IsSight (s : Sight) : Type 0 where
   pub known : IsKnowledge s.known.now
-  pub declared : in_set s.declared.now ≡ declared_in (seen_program s) s.module.now
-  pub rows : AreRowsOf (seen_program s) s.known.now.tree.now s.module.now s.rows.now
+  pub declared : in_set s.declared.now ≡ declared_in (seen_program s) s.called.now
+  pub rows : AreRowsOf (seen_program s) s.known.now.tree.now s.called.now s.rows.now
 
 -- ---- the symbols in a row
 

@@ -58,7 +58,7 @@ fn check_module(
     let rows = known.rows.of_module(name);
     let sight = Sight {
         known,
-        module: &owner.name,
+        called: &owner.name,
         declared: &declared,
         rows,
     };

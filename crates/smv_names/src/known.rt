@@ -36,7 +36,8 @@ pub struct Knowledge<'p> {
 #[derive(Drop)]
 pub struct Sight<'p> {
     pub known: &'p Knowledge<'p>,
-    pub module: &'p Text,
+    /// The name of the module.
+    pub called: &'p Text,
     /// The names that the module declares.
     pub declared: &'p HashSet<&'p str>,
     /// The instances of the module.
@@ -60,13 +61,13 @@ pub fn declared_in<'a>(
     program: &Program,
     scopes: &[Scope<'a>],
     numbers: &HashMap<&'a str, usize>,
-    module: &str,
+    called: &str,
 ) -> Result<HashSet<&'a str>, NoMemory>
     requires scopes { map scope_seen scopes.now ≡ scopes_of program.now }
     requires numbers { TellsModules scopes.now numbers.now }
-    ensures { IfOk result (λ names. in_set names ≡ spec.declared_in program.now module.now) }
+    ensures { IfOk result (λ names. in_set names ≡ spec.declared_in program.now called.now) }
 {
-    let names = names_of(alloc, entries_found(names_in(scopes, numbers, module)))?;
+    let names = names_of(alloc, entries_found(names_in(scopes, numbers, called)))?;
     Ok(names)
 }
 
@@ -83,7 +84,7 @@ fn leads_at(known: &Knowledge, row: usize, path: &[Text]) -> bool
 /// Whether a path leads to a declaration in each instance of the module.
 fn leads_in_each(sight: &Sight, path: &[Text]) -> bool
     requires { spec.IsSight sight.now }
-    ensures { result ≡ spec.leads_in_each (spec.seen_program sight.now) sight.now.«module».now path.now }
+    ensures { result ≡ spec.leads_in_each (spec.seen_program sight.now) sight.now.called.now path.now }
 {
     for row in sight.rows {
         if !leads_at(sight.known, *row, path) {
@@ -103,7 +104,7 @@ fn names_something(sight: &Sight, name: &Text) -> bool
 
 fn has_meaning(sight: &Sight, path: &[Text]) -> bool
     requires { spec.IsSight sight.now }
-    ensures { result ≡ spec.has_meaning (spec.seen_program sight.now) sight.now.«module».now path.now }
+    ensures { result ≡ spec.has_meaning (spec.seen_program sight.now) sight.now.called.now path.now }
 {
     match path {
         [] => leads_in_each(sight, path),
@@ -119,8 +120,8 @@ fn has_meaning(sight: &Sight, path: &[Text]) -> bool
 /// name that is declared there is known without a look at the instances.
 pub fn is_known(sight: &Sight, path: &[Text]) -> bool
     requires { spec.IsSight sight.now }
-    ensures exact { result ≡ spec.has_meaning (spec.seen_program sight.now) sight.now.«module».now path.now }
-    ensures law { IsTrue result ↔ spec.HasMeaning (spec.seen_program sight.now) sight.now.«module».now path.now }
+    ensures exact { result ≡ spec.has_meaning (spec.seen_program sight.now) sight.now.called.now path.now }
+    ensures law { IsTrue result ↔ spec.HasMeaning (spec.seen_program sight.now) sight.now.called.now path.now }
 {
     let known = has_meaning(sight, path);
     known

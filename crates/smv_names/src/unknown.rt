@@ -26,7 +26,7 @@ fn path_text(alloc: Global, path: &Path) -> Result<Text, NoMemory>
 
 fn check_path(alloc: Global, sight: &Sight, path: &Path) -> Result<(), Fault>
     requires { spec.IsSight sight.now }
-    ensures { TellsFirst (spec.unknown_path (spec.seen_program sight.now) sight.now.module.now path.now) result }
+    ensures { TellsFirst (spec.unknown_path (spec.seen_program sight.now) sight.now.called.now path.now) result }
 {
     let names = path.names.as_slice();
     if is_known(sight, names) {
@@ -40,7 +40,7 @@ fn check_path(alloc: Global, sight: &Sight, path: &Path) -> Result<(), Fault>
 
 fn check_paths(alloc: Global, sight: &Sight, paths: &[&Path]) -> Result<(), Fault>
     requires { spec.IsSight sight.now }
-    ensures { TellsFirst (first_some (spec.unknown_path (spec.seen_program sight.now) sight.now.module.now) (pointed paths.now)) result }
+    ensures { TellsFirst (first_some (spec.unknown_path (spec.seen_program sight.now) sight.now.called.now) (pointed paths.now)) result }
 {
     for path in paths {
         check_path(alloc, sight, path)?;
@@ -51,7 +51,7 @@ fn check_paths(alloc: Global, sight: &Sight, paths: &[&Path]) -> Result<(), Faul
 /// The paths of an expression.
 fn check_expr(alloc: Global, sight: &Sight, e: &Expr) -> Result<(), Fault>
     requires { spec.IsSight sight.now }
-    ensures { TellsFirst (spec.unknown_in (spec.seen_program sight.now) sight.now.module.now e.now) result }
+    ensures { TellsFirst (spec.unknown_in (spec.seen_program sight.now) sight.now.called.now e.now) result }
 {
     let mut paths = Vec::new(alloc);
     push_paths(&mut paths, e)?;
@@ -61,7 +61,7 @@ fn check_expr(alloc: Global, sight: &Sight, e: &Expr) -> Result<(), Fault>
 /// The paths of expressions one after another.
 fn check_exprs(alloc: Global, sight: &Sight, exprs: &[Expr]) -> Result<(), Fault>
     requires { spec.IsSight sight.now }
-    ensures { TellsFirst (first_some (spec.unknown_in (spec.seen_program sight.now) sight.now.module.now) exprs.now) result }
+    ensures { TellsFirst (first_some (spec.unknown_in (spec.seen_program sight.now) sight.now.called.now) exprs.now) result }
 {
     for e in exprs {
         check_expr(alloc, sight, e)?;
@@ -72,7 +72,7 @@ fn check_exprs(alloc: Global, sight: &Sight, exprs: &[Expr]) -> Result<(), Fault
 /// A left side is a name of the module.
 fn check_left(alloc: Global, sight: &Sight, at: Span, name: &Text) -> Result<(), Fault>
     requires { spec.IsSight sight.now }
-    ensures { TellsFirst (spec.unknown_left (spec.seen_program sight.now) sight.now.module.now at name.now) result }
+    ensures { TellsFirst (spec.unknown_left (spec.seen_program sight.now) sight.now.called.now at name.now) result }
 {
     if sight.declared.contains(name.as_str()) {
         return Ok(());
@@ -85,7 +85,7 @@ fn check_left(alloc: Global, sight: &Sight, at: Span, name: &Text) -> Result<(),
 
 fn check_assignment(alloc: Global, sight: &Sight, assignment: &Assignment) -> Result<(), Fault>
     requires { spec.IsSight sight.now }
-    ensures { TellsFirst (spec.unknown_assignment (spec.seen_program sight.now) sight.now.module.now assignment.now) result }
+    ensures { TellsFirst (spec.unknown_assignment (spec.seen_program sight.now) sight.now.called.now assignment.now) result }
 {
     check_left(alloc, sight, assignment.at, &assignment.name)?;
     check_expr(alloc, sight, &assignment.right)
@@ -93,7 +93,7 @@ fn check_assignment(alloc: Global, sight: &Sight, assignment: &Assignment) -> Re
 
 fn check_assignments(alloc: Global, sight: &Sight, assignments: &[Assignment]) -> Result<(), Fault>
     requires { spec.IsSight sight.now }
-    ensures { TellsFirst (first_some (spec.unknown_assignment (spec.seen_program sight.now) sight.now.module.now) assignments.now) result }
+    ensures { TellsFirst (first_some (spec.unknown_assignment (spec.seen_program sight.now) sight.now.called.now) assignments.now) result }
 {
     for assignment in assignments {
         check_assignment(alloc, sight, assignment)?;
@@ -103,7 +103,7 @@ fn check_assignments(alloc: Global, sight: &Sight, assignments: &[Assignment]) -
 
 fn check_declared(alloc: Global, sight: &Sight, what: &Declared) -> Result<(), Fault>
     requires { spec.IsSight sight.now }
-    ensures { TellsFirst (spec.unknown_declared (spec.seen_program sight.now) sight.now.module.now what.now) result }
+    ensures { TellsFirst (spec.unknown_declared (spec.seen_program sight.now) sight.now.called.now what.now) result }
 {
     match what {
         Declared::Plain(_) => Ok(()),
@@ -117,7 +117,7 @@ fn check_declarations(
     declarations: &[Declaration],
 ) -> Result<(), Fault>
     requires { spec.IsSight sight.now }
-    ensures { TellsFirst (first_some (spec.unknown_declaration (spec.seen_program sight.now) sight.now.module.now) declarations.now) result }
+    ensures { TellsFirst (first_some (spec.unknown_declaration (spec.seen_program sight.now) sight.now.called.now) declarations.now) result }
 {
     for declaration in declarations {
         check_declared(alloc, sight, &declaration.what)?;
@@ -127,7 +127,7 @@ fn check_declarations(
 
 fn check_definitions(alloc: Global, sight: &Sight, definitions: &[Definition]) -> Result<(), Fault>
     requires { spec.IsSight sight.now }
-    ensures { TellsFirst (first_some (spec.unknown_definition (spec.seen_program sight.now) sight.now.module.now) definitions.now) result }
+    ensures { TellsFirst (first_some (spec.unknown_definition (spec.seen_program sight.now) sight.now.called.now) definitions.now) result }
 {
     for definition in definitions {
         check_expr(alloc, sight, &definition.right)?;
@@ -137,7 +137,7 @@ fn check_definitions(alloc: Global, sight: &Sight, definitions: &[Definition]) -
 
 fn check_section(alloc: Global, sight: &Sight, section: &Section) -> Result<(), Fault>
     requires { spec.IsSight sight.now }
-    ensures { TellsFirst (spec.unknown_section (spec.seen_program sight.now) sight.now.module.now section.now) result }
+    ensures { TellsFirst (spec.unknown_section (spec.seen_program sight.now) sight.now.called.now section.now) result }
 {
     match section {
         Section::Vars(declarations) => check_declarations(alloc, sight, declarations.as_slice()),
@@ -153,7 +153,7 @@ fn check_section(alloc: Global, sight: &Sight, section: &Section) -> Result<(), 
 /// The first path or left side of these sections that stands for nothing.
 pub fn check_sections(alloc: Global, sight: &Sight, sections: &[Section]) -> Result<(), Fault>
     requires { spec.IsSight sight.now }
-    ensures { TellsFirst (first_some (spec.unknown_section (spec.seen_program sight.now) sight.now.module.now) sections.now) result }
+    ensures { TellsFirst (first_some (spec.unknown_section (spec.seen_program sight.now) sight.now.called.now) sections.now) result }
 {
     for section in sections {
         check_section(alloc, sight, section)?;

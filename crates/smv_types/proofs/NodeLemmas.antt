@@ -18,6 +18,7 @@ use Rattle.smv_meaning.specs.Tree.{placed, InRange, meant_seen}
 use Rattle.smv_meaning.specs.Slots.{slot_of, spot_of, meant_in, leads_to}
 use Rattle.smv_meaning.specs.Checking.{IsRight, AreRows, stands}
 use Rattle.smv_meaning.specs.RunCheck.{sections_at}
+use Rattle.smv_cycles.specs.HeldCycles.{OneEach}
 use Rattle.smv_cycles.proofs.HeightLemmas.{in_some}
 use Rattle.smv_cycles.proofs.StandingLemmas.{leads_same}
 use Rattle.smv_cycles.proofs.ProgramLemmas as names
@@ -289,17 +290,9 @@ module _ (program : Program) (tree : Tree) (right : IsRight program tree) where
 
     -- ---- the count
 
-    module _ (one : (i j : ℕ) → i < n → j < n → stands tree i ≡ stands tree j → i ≡ j) where
-      slot_one : (a b : ℕ) → Slotted a → Slotted b → named a ≡ named b → a ≡ b
-      slot_one a b i j e =
-          let f = sym (names.of_is program tree right a i) ∙ (e ∙ names.of_is program tree right b j) in
-          let place = one i.spot.place j.spot.place i.within j.within (ap (λ (s : Spot Place). s.place) f) in
-          let name = ap (λ (s : Spot Place). s.name) f in
-          let spot : i.spot ≡ j.spot = ap (λ (x : ℕ). record { place = x; name = i.spot.name }) place ∙ ap (λ (x : Name). record { place = j.spot.place; name = x }) name in
-          in_some (sym i.at ∙ (ap (slot_of tree) spot ∙ j.at))
-
+    module _ (one : OneEach tree) where
       moved_one : (s t : Shared ℕ) → Slotted s.0 → Slotted t.0 → moved s ≡ moved t → s ≡ t
-      moved_one (a, late) (b, later) i j e = ap (λ (x : ℕ). (x, late)) (slot_one a b i j (ap (λ (x : Shared (Spot Place)). x.0) e)) ∙ ap (λ (x : Bool). (b, x)) (ap (λ (x : Shared (Spot Place)). x.1) e)
+      moved_one (a, late) (b, later) i j e = ap (λ (x : ℕ). (x, late)) (names.slot_one program tree right one a b i j (ap (λ (x : Shared (Spot Place)). x.0) e)) ∙ ap (λ (x : Bool). (b, x)) (ap (λ (x : Shared (Spot Place)). x.1) e)
 
       moved_apart : (xs : List (Shared ℕ)) → ((s : Shared ℕ) → In s xs → Slotted s.0) → Apart xs → Apart (map moved xs)
       moved_apart [] h a = tt
@@ -331,7 +324,7 @@ module _ (program : Program) (tree : Tree) (right : IsRight program tree) where
           sum = e ∙ (nodes_same (items ++ pieces_behind table xs) whole.inside ∙ ap (pieces_nodes model) whole.same)
 
   -- the count over the instances in their order
-  pub table_count : (order : List ℕ) (count : ℕ) → AreRows tree order → ((i j : ℕ) → i < n → j < n → stands tree i ≡ stands tree j → i ≡ j) →
+  pub table_count : (order : List ℕ) (count : ℕ) → AreRows tree order → OneEach tree →
       IsCount table (table_pieces program tree order) count → IsCount model (item_pieces (sections_at program) (map (stands tree) order)) count
   table_count order count rows one c =
       let items = items_same order (λ row i. all_in (λ (k : ℕ). k < n) order row rows i) in

@@ -14,6 +14,7 @@ use Rattle.smv_meaning.proofs.TreeLemmas.{get_within}
 use Rattle.smv_meaning.proofs.WorthLemmas.{get_item}
 use Rattle.smv_names.specs.NamesFault.{names_fault}
 use Rattle.smv_shape.specs.Shape.{shape_fault}
+use Rattle.smv_cycles.specs.HeldCycles.{OneEach}
 use Rattle.std.specs.Prelude.{IfOk, Result, Ok, Err}
 use Rattle.smv_ast.specs.declared.fault.Fault.{Fault}
 use Rattle.smv_ast.specs.declared.fault.NoMemory.{NoMemory}
@@ -49,11 +50,15 @@ pub if_sound : {A : Type 0} (program : Program) (result : Result A Fault) → Ar
 if_sound program (Ok a) shaped h = h shaped
 if_sound program (Err f) shaped h = h
 
--- what is counted in a table that has each instance once is the number of nodes of the model
-pub counted : (program : Program) (tree : Tree) (order : List ℕ) (result : Result ℕ NoMemory) → IsRight program tree → AreRows tree order → map (stands tree) order ≡ instances program → length tree.rows ≡ length (instances program) → AreApart program
+-- a table with a row for each of instances that differ has each once
+pub each_once : (program : Program) (tree : Tree) (order : List ℕ) → AreRows tree order → map (stands tree) order ≡ instances program → length tree.rows ≡ length (instances program) → AreApart program → OneEach tree
+each_once program tree order rows same count apart =
+    one_each (stands tree) (length tree.rows) order (subst (AllPairs (λ p q. p ≢ q)) (sym same) apart) rows (sym (length-map order (stands tree)) ∙ (ap length same ∙ sym count))
+
+-- what is counted in such a table is the number of nodes of the model
+pub counted : (program : Program) (tree : Tree) (order : List ℕ) (result : Result ℕ NoMemory) → IsRight program tree → AreRows tree order → map (stands tree) order ≡ instances program → OneEach tree
     → IfOk result (λ n. IsCount (of_table tree) (table_pieces program tree order) n) → IfOk result (IsNodes program)
-counted program tree order (Ok n) right rows same count apart h =
-    let one = one_each (stands tree) (length tree.rows) order (subst (AllPairs (λ p q. p ≢ q)) (sym same) apart) rows (sym (length-map order (stands tree)) ∙ (ap length same ∙ sym count)) in
+counted program tree order (Ok n) right rows same one h =
     let has : HasNodes program n = subst (λ (places : List Place). IsCount (of_program program) (item_pieces (sections_at program) places) n) same (table_count program tree right order n rows one h) in
     record { has = has; only = λ m k. one_count (of_program program) (program_pieces program) m n k has }
-counted program tree order (Err e) right rows same count apart h = h
+counted program tree order (Err e) right rows same one h = h

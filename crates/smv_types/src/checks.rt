@@ -8,6 +8,7 @@ ghost use Rattle.smv_meaning.specs.Checking as checking;
 ghost use Rattle.smv_meaning.specs.Slots as slots;
 ghost use Rattle.smv_meaning.specs.Worth as worth;
 ghost use Rattle.smv_meaning.specs.RunCheck.{text_of_place};
+ghost use Rattle.smv_cycles.specs.HeldCycles.{OneEach};
 ghost use Rattle.smv_kinds.specs.Soundness as soundness;
 ghost use Rattle.smv_types.specs.Checks as spec;
 
@@ -91,8 +92,7 @@ fn model_nodes(
     requires rows { checking.AreRows tree.now order.now }
     requires order { map (checking.stands tree.now) order.now ≡ instances program.now }
     requires standing { slots.TellsStanding tree.now standing.now }
-    requires count { length tree.now.rows ≡ length (instances program.now) }
-    requires apart { spec.AreApart program.now }
+    requires one { OneEach tree.now }
     ensures { IfOk result (spec.IsNodes program.now) }
 {
     count_nodes(alloc, program, tree, standing, order)
@@ -110,8 +110,7 @@ fn typed_of(
     requires rows { checking.AreRows tree.now order.now }
     requires order { map (checking.stands tree.now) order.now ≡ instances program.now }
     requires standing { slots.TellsStanding tree.now standing.now }
-    requires count { length tree.now.rows ≡ length (instances program.now) }
-    requires apart { spec.AreApart program.now }
+    requires one { OneEach tree.now }
     ensures { IfOk result (spec.IsTyped program.now) }
 {
     let texts = path_texts(alloc, tree.rows.as_slice())?;
@@ -132,6 +131,7 @@ fn check_reads(
     requires rows { checking.AreRows tree.now order.now }
     requires order { map (checking.stands tree.now) order.now ≡ instances program.now }
     requires standing { slots.TellsStanding tree.now standing.now }
+    requires one { OneEach tree.now }
     ensures first { TellsFirst (spec.read_fault program.now) result }
     ensures sound { IfOk result (λ _. soundness.AreShaped program.now → soundness.IsSound program.now) }
 {
@@ -150,8 +150,7 @@ fn check_rows(
     requires rows { checking.AreRows tree.now order.now }
     requires order { map (checking.stands tree.now) order.now ≡ instances program.now }
     requires standing { slots.TellsStanding tree.now standing.now }
-    requires count { length tree.now.rows ≡ length (instances program.now) }
-    requires apart { spec.AreApart program.now }
+    requires one { OneEach tree.now }
     ensures first { TellsFirst (spec.read_fault program.now) result }
     ensures typed { IfOk result (spec.IsTyped program.now) }
     ensures sound { IfOk result (λ _. soundness.AreShaped program.now → soundness.IsSound program.now) }

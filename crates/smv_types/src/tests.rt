@@ -41,19 +41,58 @@ fn main_of(alloc: Global, sections: List<Section>) -> Result<Program, NoMemory> 
     Ok(Program { modules })
 }
 
+fn defined(alloc: Global, word: &str, right: Expr, at: u32) -> Result<Definition, NoMemory> {
+    Ok(Definition {
+        name: Text::from_str(alloc, word)?,
+        right,
+        at: place(at),
+    })
+}
+
 // `MODULE main DEFINE d := e; e := d;`.
 fn circle(alloc: Global) -> Result<Program, NoMemory> {
     let mut definitions = List::new(alloc);
-    definitions.push(Definition {
-        name: Text::from_str(alloc, "d")?,
-        right: name(alloc, "e")?,
-        at: place(19),
-    })?;
-    definitions.push(Definition {
-        name: Text::from_str(alloc, "e")?,
-        right: name(alloc, "d")?,
-        at: place(27),
-    })?;
+    definitions.push(defined(alloc, "d", name(alloc, "e")?, 19)?)?;
+    definitions.push(defined(alloc, "e", name(alloc, "d")?, 27)?)?;
+    let mut sections = List::new(alloc);
+    sections.push(Section::Defines(definitions))?;
+    main_of(alloc, sections)
+}
+
+// `MODULE main DEFINE z := d; d := a + e; a := b; b := a; e := d;`: `z` reads circles and is on none,
+// `d` reads the circle of `a` before its own.
+fn detour(alloc: Global) -> Result<Program, NoMemory> {
+    let both = Expr::Binary(
+        Op::Add,
+        Boxed::new(alloc, name(alloc, "a")?)?,
+        Boxed::new(alloc, name(alloc, "e")?)?,
+    );
+    let mut definitions = List::new(alloc);
+    definitions.push(defined(alloc, "z", name(alloc, "d")?, 11)?)?;
+    definitions.push(defined(alloc, "d", both, 19)?)?;
+    definitions.push(defined(alloc, "a", name(alloc, "b")?, 31)?)?;
+    definitions.push(defined(alloc, "b", name(alloc, "a")?, 39)?)?;
+    definitions.push(defined(alloc, "e", name(alloc, "d")?, 47)?)?;
+    let mut sections = List::new(alloc);
+    sections.push(Section::Defines(definitions))?;
+    main_of(alloc, sections)
+}
+
+// `!` so many times before an expression.
+fn denied(alloc: Global, times: u32, e: Expr) -> Result<Expr, NoMemory> {
+    let mut whole = e;
+    for _turn in 0..times {
+        whole = Expr::Not(Boxed::new(alloc, whole)?);
+    }
+    Ok(whole)
+}
+
+// `MODULE main DEFINE d := ..; e := ..;`: `d` of 600 nodes, of a name and of what it reads, which is `TRUE`
+// behind so many `!`.
+fn nested(alloc: Global, times: u32) -> Result<Program, NoMemory> {
+    let mut definitions = List::new(alloc);
+    definitions.push(defined(alloc, "d", denied(alloc, 600, name(alloc, "e")?)?, 19)?)?;
+    definitions.push(defined(alloc, "e", denied(alloc, times, Expr::True)?, 27)?)?;
     let mut sections = List::new(alloc);
     sections.push(Section::Defines(definitions))?;
     main_of(alloc, sections)
@@ -114,8 +153,21 @@ fn is_circle(answer: Result<Typed, Fault>) -> bool {
 
 #[test]
 fn circles(rt: HostRuntime) -> Result<(), Fail> {
-    let program = circle(rt.alloc())?;
-    assert!(rt; is_circle(check(rt.alloc(), &program)));
+    let alloc = rt.alloc();
+    assert!(rt; is_circle(check(alloc, &circle(alloc)?)));
+    assert!(rt; is_circle(check(alloc, &detour(alloc)?)));
+    Ok(())
+}
+
+// 601 and the height of what is read: 399 fits, 400 does not.
+#[test]
+fn one_thousand_and_one_more(rt: HostRuntime) -> Result<(), Fail> {
+    let alloc = rt.alloc();
+    assert!(rt; check(alloc, &nested(alloc, 398)?).is_ok());
+    match check(alloc, &nested(alloc, 399)?) {
+        Err(Fault::TooNested { at }) => assert_eq!(rt; at, Some(place(19))),
+        _ => panic!(rt; "not nested too deep"),
+    }
     Ok(())
 }
 

@@ -28,7 +28,7 @@ pub struct MissingName {
 
 fn first_unknown<'a>(sight: &Sight, paths: &[&'a Path]) -> Option<&'a Path>
     requires { unknown.IsSight sight.now }
-    ensures { option_copied result ≡ spec.first_unknown (unknown.seen_program sight.now) sight.now.«module».now (pointed paths.now) }
+    ensures { option_copied result ≡ spec.first_unknown (unknown.seen_program sight.now) sight.now.called.now (pointed paths.now) }
 {
     for path in paths {
         if !is_known_in(sight, path) {
@@ -40,7 +40,7 @@ fn first_unknown<'a>(sight: &Sight, paths: &[&'a Path]) -> Option<&'a Path>
 
 fn is_known_in(sight: &Sight, path: &Path) -> bool
     requires { unknown.IsSight sight.now }
-    ensures { result ≡ unknown.has_meaning (unknown.seen_program sight.now) sight.now.«module».now path.now.names }
+    ensures { result ≡ unknown.has_meaning (unknown.seen_program sight.now) sight.now.called.now path.now.names }
 {
     is_known(sight, path.names.as_slice())
 }
@@ -69,7 +69,7 @@ fn missing_of_paths(
 ) -> Result<Option<MissingName>, NoMemory>
     requires { unknown.IsSight sight.now }
     ensures { IfOk result (λ found. found
-        ≡ option_map spec.missing_path (spec.first_unknown (unknown.seen_program sight.now) sight.now.«module».now (pointed paths.now))) }
+        ≡ option_map spec.missing_path (spec.first_unknown (unknown.seen_program sight.now) sight.now.called.now (pointed paths.now))) }
 {
     match first_unknown(sight, paths) {
         Some(path) => Ok(Some(missing_path(alloc, path)?)),
@@ -80,7 +80,7 @@ fn missing_of_paths(
 /// The first name of an expression that is missing.
 fn missing_expr(alloc: Global, sight: &Sight, e: &Expr) -> Result<Option<MissingName>, NoMemory>
     requires { unknown.IsSight sight.now }
-    ensures { IfOk result (λ found. found ≡ spec.missing_expr (unknown.seen_program sight.now) sight.now.«module».now e.now) }
+    ensures { IfOk result (λ found. found ≡ spec.missing_expr (unknown.seen_program sight.now) sight.now.called.now e.now) }
 {
     let mut paths = Vec::new(alloc);
     push_paths(&mut paths, e)?;
@@ -90,7 +90,7 @@ fn missing_expr(alloc: Global, sight: &Sight, e: &Expr) -> Result<Option<Missing
 /// Whether the module declares the name.
 fn declares(sight: &Sight, name: &Text) -> bool
     requires { unknown.IsSight sight.now }
-    ensures { result ≡ unknown.declared_in (unknown.seen_program sight.now) sight.now.«module».now name.now }
+    ensures { result ≡ unknown.declared_in (unknown.seen_program sight.now) sight.now.called.now name.now }
 {
     sight.declared.contains(name.as_str())
 }
@@ -103,7 +103,7 @@ fn missing_target(
     at: Span,
 ) -> Result<Option<MissingName>, NoMemory>
     requires { unknown.IsSight sight.now }
-    ensures { IfOk result (λ found. found ≡ spec.missing_target (unknown.seen_program sight.now) sight.now.«module».now at name.now) }
+    ensures { IfOk result (λ found. found ≡ spec.missing_target (unknown.seen_program sight.now) sight.now.called.now at name.now) }
 {
     if declares(sight, name) {
         return Ok(None);
@@ -122,7 +122,7 @@ fn missing_treated(
 ) -> Result<Option<MissingName>, NoMemory>
     requires { unknown.IsSight sight.now }
     ensures { IfOk result (λ found. found
-        ≡ option_map spec.missing_path (spec.first_unknown (unknown.seen_program sight.now) sight.now.«module».now (path.now ∷ []))) }
+        ≡ option_map spec.missing_path (spec.first_unknown (unknown.seen_program sight.now) sight.now.called.now (path.now ∷ []))) }
 {
     if is_known_in(sight, path) {
         return Ok(None);
@@ -138,7 +138,7 @@ fn missing_action(
     action: &Action,
 ) -> Result<Option<MissingName>, NoMemory>
     requires { unknown.IsSight sight.now }
-    ensures { IfOk result (λ found. found ≡ spec.missing_action (unknown.seen_program sight.now) sight.now.«module».now at action.now) }
+    ensures { IfOk result (λ found. found ≡ spec.missing_action (unknown.seen_program sight.now) sight.now.called.now at action.now) }
 {
     match action {
         Action::Impose { name, right, .. } => match missing_target(alloc, sight, name, at)? {
@@ -159,7 +159,7 @@ fn missing_in_sight(
     change: &Change,
 ) -> Result<Option<MissingName>, NoMemory>
     requires sight { unknown.IsSight sight.now }
-    requires here { sight.now.«module».now ≡ change.now.«module» }
+    requires here { sight.now.called.now ≡ change.now.«module» }
     ensures { IfOk result (λ found. found ≡ spec.first_missing (unknown.seen_program sight.now) change.now) }
 {
     match missing_expr(alloc, sight, &change.cond)? {
@@ -194,7 +194,7 @@ fn missing_in_tree(
     };
     let sight = Sight {
         known: &known,
-        module: &change.module,
+        called: &change.module,
         declared: &declared,
         rows: rows_by_module.of_module(name),
     };

@@ -5,7 +5,7 @@ use Rattle.smv_meaning.specs.Least.{entry}
 use Rattle.smv_meaning.proofs.NumberLemmas.{has_slots, are_linked}
 use Rattle.smv_cycles.specs.Reads.{heights}
 use Rattle.smv_cycles.specs.Held.{edges_at}
-use Rattle.smv_cycles.proofs.FaultLemmas.{outer_first, compares_rows, skips_known, faults_are}
+use Rattle.smv_cycles.proofs.FaultLemmas.{faults_are}
 use Rattle.smv_cycles.proofs.check.check_cycles.Goals as goal
 
 pub graph_of-requires-clause-has : goal.graph_of-requires-clause-has
@@ -17,20 +17,9 @@ check_graph-requires-clause-has c = has_slots c.args.program.now c.args.tree.now
 pub check_graph-requires-clause-linked : goal.check_graph-requires-clause-linked
 check_graph-requires-clause-linked c = are_linked c.args.program.now c.args.tree.now c.requires.right
 
-pub check_graph-requires-clause-outer : goal.check_graph-requires-clause-outer
-check_graph-requires-clause-outer c = outer_first c.args.program.now c.args.tree.now c.requires.right
-
-pub check_graph-requires-clause-compares : goal.check_graph-requires-clause-compares
-check_graph-requires-clause-compares c = compares_rows c.args.program.now c.args.tree.now c.requires.right
-
-pub check_graph-requires-clause-skips : goal.check_graph-requires-clause-skips
-check_graph-requires-clause-skips c =
-    let told : (k : ℕ) → entry c.in_ok-heights.heights k ≡ heights (edges_at c.in_ok-graph.graph) k = rw c.as_slice-2.ensures at c.in_ok-heights.ensures in
-    rw (c.as_slice-4.ensures, c.as_slice-6.ensures) (skips_known c.args.program.now c.args.tree.now c.requires.right c.args.standing.now c.requires.standing c.in_ok-graph.graph c.in_ok-graph.ensures c.in_ok-heights.heights told)
-
 pub returns : goal.returns
 returns c =
-    let told : (k : ℕ) → entry c.in_ok-heights.heights k ≡ heights (edges_at c.in_ok-graph.graph) k = rw c.as_slice-2.ensures at c.in_ok-heights.ensures in
+    let told : (k : ℕ) → entry c.in_ok-heights.heights k ≡ heights (edges_at c.in_ok-graph.graph) k = rw c.as_slice-3.ensures at c.in_ok-heights.ensures in
     subst (λ (f : Option Fault). TellsFirst f c.check_graph.result)
-    (faults_are c.args.program.now c.args.tree.now c.requires.right c.args.standing.now c.requires.standing c.in_ok-graph.graph c.in_ok-graph.ensures c.in_ok-heights.heights told c.args.order.now c.requires.rows c.requires.order)
-    (rw (c.as_slice-4.ensures, c.as_slice-6.ensures) at c.check_graph.ensures)
+    (faults_are c.args.program.now c.args.tree.now c.requires.right c.requires.one c.args.standing.now c.requires.standing c.in_ok-graph.graph c.in_ok-graph.ensures c.in_ok-heights.heights told c.args.order.now c.requires.rows c.requires.order)
+    (rw (c.as_slice-4.ensures, c.as_slice-5.ensures) at c.check_graph.ensures)

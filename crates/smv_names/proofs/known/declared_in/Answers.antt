@@ -8,5 +8,5 @@ use Rattle.smv_names.proofs.known.declared_in.Goals as goal
 
 pub returns : goal.returns
 returns c =
-    let names = c.entries_found.ensures.entries ∙ (c.names_in.ensures ∙ (ap (λ scopes. entries_in scopes c.args.module.now) c.requires.scopes ∙ entries_named_is c.args.program.now.modules c.args.module.now)) in
-    declared_are c.args.program.now c.args.module.now (all_seen c.entries_found.result.now) (in_set c.in_ok-names.names) names c.in_ok-names.ensures
+    let names = c.entries_found.ensures.entries ∙ (c.names_in.ensures ∙ (ap (λ scopes. entries_in scopes c.args.called.now) c.requires.scopes ∙ entries_named_is c.args.program.now.modules c.args.called.now)) in
+    declared_are c.args.program.now c.args.called.now (all_seen c.entries_found.result.now) (in_set c.in_ok-names.names) names c.in_ok-names.ensures

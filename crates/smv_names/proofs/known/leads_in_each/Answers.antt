@@ -10,4 +10,4 @@ pub loop-row-init : goal.loop-row-init
 loop-row-init c =
     let program = c.args.sight.now.known.now.program.now in
     let leads = leads_in program c.args.path.now in
-    ap (list_all leads) c.requires.rows.exact ∙ sym (all_of (is_of c.args.sight.now.«module».now) leads (instances program))
+    ap (list_all leads) c.requires.rows.exact ∙ sym (all_of (is_of c.args.sight.now.called.now) leads (instances program))

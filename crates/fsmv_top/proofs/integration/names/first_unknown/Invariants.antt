@@ -5,4 +5,4 @@ use Rattle.fsmv_top.specs.UsedNames as spec
 use Rattle.fsmv_top.proofs.integration.names.first_unknown.Given as goal
 
 abbrev pub invariant-loop-path : goal.invariant-loop-path
-invariant-loop-path l = spec.first_unknown (seen_program l.sight) l.sight.«module».now (pointed l.paths) ≡ spec.first_unknown (seen_program l.sight) l.sight.«module».now (pointed (drop l.path-index l.paths))
+invariant-loop-path l = spec.first_unknown (seen_program l.sight) l.sight.called.now (pointed l.paths) ≡ spec.first_unknown (seen_program l.sight) l.sight.called.now (pointed (drop l.path-index l.paths))
