@@ -5,7 +5,6 @@ pub mod WayLemmas
 pub mod TextLemmas
 pub mod HeightLemmas
 pub mod LoopLemmas
-pub mod StandingLemmas
 pub mod MovedLemmas
 pub mod ProgramLemmas
 pub mod FaultLemmas

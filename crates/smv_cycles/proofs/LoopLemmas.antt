@@ -1,5 +1,5 @@
 -- A slot reads itself exactly where it leads back to itself in the graph of what slots read.
-use Rattle.std.proofs.Common.{◌≡◌, ℕ, zero, suc, Bool, true, false, not, ◌&&◌, ◌||◌, nat_eq, List, [], ◌∷◌, ◌++◌, map, Option, Some, None, refl, sym, ap, ◌∙◌, if◌then◌else◌}
+use Rattle.std.proofs.Common.{◌≡◌, ℕ, zero, suc, Bool, true, false, ◌||◌, nat_eq, List, [], ◌∷◌, ◌++◌, map, Option, Some, None, refl, sym, ap, ◌∙◌, if◌then◌else◌}
 use Rattle.std.specs.Prelude.{slice_get, is_some}
 use Rattle.std.specs.List.{flat_map}
 use Rattle.std.specs.Option.{option_map, option_to_list}
@@ -7,7 +7,7 @@ use Rattle.std.proofs.lemmas.Bool.{eqb-true, eq-eqb}
 use Rattle.smv_meaning.specs.Value.{and_then}
 use Rattle.smv_meaning.specs.Least.{known, most}
 use Rattle.smv_meaning.specs.Runs.{or_else, first_some}
-use Rattle.smv_loops.specs.Loops.{targets_at, leads_by, lead_step, leads}
+use Rattle.smv_loops.specs.Loops.{targets_at, leads_by, lead_step}
 use Rattle.smv_cycles.specs.declared.edges.Edge.{Edge as HeldEdge}
 use Rattle.smv_cycles.specs.Reads.{leads_on, step_on, first_on, closing_step, closes, own_circle}
 use Rattle.smv_cycles.specs.Reads as reads

@@ -19,7 +19,7 @@ use Rattle.smv_meaning.specs.Tree.{placed, InRange, meant_seen, entries_at}
 use Rattle.smv_meaning.specs.Entries.{first_place}
 use Rattle.smv_meaning.specs.Slots.{slot_of, spot_of, meant_in, HasSlots, TellsStanding, leads_to}
 use Rattle.smv_meaning.specs.Checking.{IsRight, stands}
-use Rattle.smv_meaning.proofs.NumberLemmas.{has_slots, same_meant}
+use Rattle.smv_meaning.proofs.NumberLemmas.{SameSpot, has_slots, same_meant, standing_same, leads_same}
 use Rattle.smv_meaning.proofs.SlotLemmas.{the_slot}
 use Rattle.smv_meaning.proofs.TreeLemmas.{get_within}
 use Rattle.smv_cycles.specs.Nodes.{Node, nodes_of}
@@ -28,7 +28,6 @@ use Rattle.smv_cycles.specs.Held.{edges_seen, edges_at, is_read, read_slot, slot
 use Rattle.smv_cycles.specs.Cycles as spec
 use Rattle.smv_cycles.specs.HeldCycles.{Graph, OneEach}
 use Rattle.smv_cycles.proofs.HeightLemmas.{then_some, in_some}
-use Rattle.smv_cycles.proofs.StandingLemmas.{SameSpot, standing_same, leads_same}
 use Rattle.smv_cycles.proofs.MovedLemmas.{moved, TargetIn, EdgesIn}
 
 graph_at : {A B C : Type 0} (g : A → Option C) (h : B → Option C) (xs : List A) (ys : List B) → map g xs ≡ map h ys → (k : ℕ) (y : B) → slice_get ys k ≡ Some y → and_then (slice_get xs k) g ≡ h y

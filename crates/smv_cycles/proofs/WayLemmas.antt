@@ -1,15 +1,15 @@
 -- A way that is shown to be the circle is the circle.
-use Rattle.std.proofs.Common.{◌≡◌, ℕ, zero, suc, ◌+◌, ◌-◌, ◌^◌, ◌<◌, ◌≤◌, Bool, true, false, not, ◌&&◌, ◌||◌, nat_eq, nat_le, List, [], ◌∷◌, ◌++◌, length, take, Option, Some, None, inl, inr, refl, sym, ap, ◌∙◌, subst, arith, if◌then◌else◌}
+use Rattle.std.proofs.Common.{◌≡◌, ℕ, zero, suc, ◌+◌, ◌-◌, ◌^◌, ◌<◌, ◌≤◌, Bool, true, false, not, ◌&&◌, ◌||◌, nat_eq, List, [], ◌∷◌, ◌++◌, length, take, Option, Some, None, inl, inr, refl, sym, ap, ◌∙◌, subst, arith, if◌then◌else◌}
 use Rattle.std.specs.Prelude.{slice_get, unwrap_or}
 use Rattle.std.specs.Option.{option_map}
 use Rattle.std.proofs.lemmas.Bool.{eqb-true, eq-eqb, and_parts, and_from, or_cases, or_left, or_right}
 use Rattle.smv_meaning.specs.Value.{and_then}
-use Rattle.smv_meaning.specs.Least.{Under, known, least, most, entry}
+use Rattle.smv_meaning.specs.Least.{Under, known, most, entry}
 use Rattle.smv_meaning.specs.Runs.{or_else}
 use Rattle.smv_meaning.proofs.LeastLemmas.{known-more}
 use Rattle.smv_meaning.proofs.TreeLemmas.{get_within}
 use Rattle.smv_cycles.specs.declared.edges.Edge.{Edge as HeldEdge}
-use Rattle.smv_cycles.specs.Reads.{Edge, is_some, among, leads_on, step_on, first_on, next_by, closing_step, closes, next_of, circle_from, circle_of}
+use Rattle.smv_cycles.specs.Reads.{Edge, is_some, among, leads_on, step_on, first_on, closing_step, closes, next_of, circle_from, circle_of}
 use Rattle.smv_cycles.specs.ReadsGrow.{closing_grows}
 use Rattle.smv_cycles.specs.Held.{edges_seen, edges_at}
 use Rattle.smv_cycles.specs.HeldCycles.{Graph}

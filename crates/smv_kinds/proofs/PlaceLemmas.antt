@@ -1,21 +1,20 @@
 -- What is known of the numbers of a right table is known of the instances for which they stand.
-use Rattle.std.proofs.Common.{◌≡◌, ℕ, zero, suc, ◌<◌, List, [], ◌∷◌, length, Option, Some, None, refl, sym, ap, ◌∙◌, subst}
+use Rattle.std.proofs.Common.{◌≡◌, ℕ, zero, suc, ◌<◌, List, [], ◌∷◌, length, Option, Some, None, refl, sym, ap, ◌∙◌}
 use Rattle.std.specs.Option.{option_map, is_some}
 use mathlib.Core.Path.{fun_ext}
 use Rattle.smv_ast.specs.declared.syntax.Expr.{Expr}
-use Rattle.smv_ast.specs.declared.syntax.Expr.TheVariants as expr
 use Rattle.smv_ast.specs.declared.program.Program.{Program}
 use Rattle.smv_meaning.specs.declared.tree.Tree.{Tree}
 use Rattle.std.specs.Prelude.{slice_get}
 use Rattle.smv_meaning.specs.Value.{Name, and_then}
 use Rattle.smv_meaning.specs.Least.{known, most, entry}
-use Rattle.smv_meaning.specs.Paths.{Spot, Meant, Standing, IsVariable, IsInstance, IsDefine, IsFormal, IsNothing, walked, stood_for, behind, stand_step, standing, leads}
+use Rattle.smv_meaning.specs.Paths.{Spot, Meant, Standing, IsVariable, IsInstance, IsDefine, IsFormal, IsNothing, stood_for, standing, leads}
 use Rattle.smv_meaning.specs.Instances.{Entry, Place, meant_at, entries, module_at}
 use Rattle.smv_meaning.specs.Entries.{meaning_among}
 use Rattle.smv_meaning.specs.Tree.{entries_at, place_at, places, placed, meant_seen, InRange, RightTree}
 use Rattle.smv_meaning.specs.Slots.{slot_of, meant_in, by_slot, TellsStanding, leads_to}
 use Rattle.smv_meaning.proofs.TreeLemmas.{names_at}
-use Rattle.smv_meaning.proofs.NumberLemmas.{same_meant, spot_at}
+use Rattle.smv_meaning.proofs.NumberLemmas.{SamePlace, SameSpot, spot_at, same_meant, stood_same, standing_same, leads_same}
 use Rattle.smv_kinds.specs.declared.sorts.Sort.{Sort}
 use Rattle.smv_kinds.specs.Facts.{Sorting, facts_of}
 use Rattle.smv_kinds.specs.Readings.{Sorts, variable_sort, symbol_sort, sort_at, sorting_by, sort_by, sort_of, sort_step, sorts_in, target_sort, target_in, variable_at, sorting_in, row_variable, row_sorting, TellsSorts}
@@ -46,82 +45,8 @@ module _ (program : Program) (tree : Tree) (right : RightTree program tree.rows 
   abbrev stands : ℕ → Place
   stands k = place_at (places tree.rows) k
 
-  -- ---- what names stand for
-
   abbrev n : ℕ
   n = length tree.rows
-
-  -- an instance by number is the one by place
-  record SamePlace (o : Option ℕ) (p : Option Place) : Type 0 where
-    same : option_map stands o ≡ p
-    range : (c : ℕ) → o ≡ Some c → c < n
-
-  place_some : (c : ℕ) → c < n → SamePlace (Some c) (Some (stands c))
-  place_some c h = record { same = refl; range = λ d e. let i : c ≡ d = cc in subst (λ (x : ℕ). x < n) i h }
-
-  place_none : SamePlace None None
-  place_none = record { same = refl; range = λ d e. cc }
-
-  place_then : (o : Option ℕ) (p : Option Place) (g : ℕ → Option ℕ) (h : Place → Option Place) → SamePlace o p → ((c : ℕ) → c < n → SamePlace (g c) (h (stands c))) → SamePlace (and_then o g) (and_then p h)
-  place_then None p g h s more = subst (λ (q : Option Place). SamePlace None (and_then q h)) s.same place_none
-  place_then (Some c) p g h s more = subst (λ (q : Option Place). SamePlace (g c) (and_then q h)) s.same (more c (s.range c refl))
-
-  meant_then : (o : Option (Meant ℕ)) (p : Option (Meant Place)) (g : Meant ℕ → Option ℕ) (h : Meant Place → Option Place) → option_map (placed stands) o ≡ p → ((m : Meant ℕ) → o ≡ Some m → InRange n m) →
-      ((m : Meant ℕ) → InRange n m → SamePlace (g m) (h (placed stands m))) → SamePlace (and_then o g) (and_then p h)
-  meant_then None p g h s w more = subst (λ (q : Option (Meant Place)). SamePlace None (and_then q h)) s place_none
-  meant_then (Some m) p g h s w more = subst (λ (q : Option (Meant Place)). SamePlace (g m) (and_then q h)) s (more m (w m refl))
-
-  -- standings agree on the instances of the table
-  abbrev Agree : Standing ℕ → Standing Place → Type 0
-  Agree s t = (r : ℕ) (name : Name) → r < n → SamePlace (s (spot_at r name)) (t (spot_at (stands r) name))
-
-  walked_same : (s : Standing ℕ) (t : Standing Place) → Agree s t → (path : List Name) (r : ℕ) → r < n → SamePlace (walked s r path) (walked t (stands r) path)
-  walked_same s t a [] r h = place_some r h
-  walked_same s t a (name ∷ more) r h =
-      place_then (s (spot_at r name)) (t (spot_at (stands r) name)) (λ p. walked s p more) (λ p. walked t p more) (a r name h) (walked_same s t a more)
-
-  stood_same : (s : Standing ℕ) (t : Standing Place) → Agree s t → (r : ℕ) (e : Expr) → r < n → SamePlace (stood_for s r e) (stood_for t (stands r) e)
-  stood_same s t a r (expr.Name path) h = walked_same s t a path.names r h
-  stood_same s t a r _ h = place_none
-
-  behind_same : (s : Standing ℕ) (t : Standing Place) → Agree s t → (m : Meant ℕ) → InRange n m → SamePlace (behind s m) (behind t (placed stands m))
-  behind_same s t a IsVariable h = place_none
-  behind_same s t a (IsInstance c) h = place_some c h
-  behind_same s t a (IsDefine right') h = place_none
-  behind_same s t a (IsFormal c actual) h = stood_same s t a c actual h
-  behind_same s t a IsNothing h = place_none
-
-  stand_same : (s : Standing ℕ) (t : Standing Place) → Agree s t → Agree (stand_step (meant_in tree) s) (stand_step (meant_at program) t)
-  stand_same s t a r name h =
-      let m = same_meant program tree right r name h in
-      meant_then (meant_in tree (spot_at r name)) (meant_at program (spot_at (stands r) name)) (behind s) (behind t) m.same m.range (behind_same s t a)
-
-  known_same : (turns : ℕ) → Agree (known (stand_step (meant_in tree)) turns) (known (stand_step (meant_at program)) turns)
-  known_same zero r name h = place_none
-  known_same (suc turns) r name h = stand_same (known (stand_step (meant_in tree)) turns) (known (stand_step (meant_at program)) turns) (known_same turns) r name h
-
-  standing_same : Agree (standing (meant_in tree)) (standing (meant_at program))
-  standing_same = known_same most
-
-  -- a declaration by number is the one by place
-  record SameSpot (o : Option (Spot ℕ)) (p : Option (Spot Place)) : Type 0 where
-    same : option_map (λ spot. spot_at (stands spot.place) spot.name) o ≡ p
-    range : (spot : Spot ℕ) → o ≡ Some spot → spot.place < n
-
-  leads_same : (path : List Name) (r : ℕ) → r < n → SameSpot (leads (meant_in tree) r path) (leads (meant_at program) (stands r) path)
-  leads_same [] r h = record { same = refl; range = λ spot e. cc }
-  leads_same (name ∷ []) r h = at (meant_in tree (spot_at r name)) (meant_at program (spot_at (stands r) name)) (same_meant program tree right r name h).same
-    where
-      at : (o : Option (Meant ℕ)) (p : Option (Meant Place)) → option_map (placed stands) o ≡ p → SameSpot (and_then o (λ m. Some (spot_at r name))) (and_then p (λ m. Some (spot_at (stands r) name)))
-      at None p e = subst (λ (q : Option (Meant Place)). SameSpot None (and_then q (λ m. Some (spot_at (stands r) name)))) e (record { same = refl; range = λ spot e. cc })
-      at (Some m) p e = subst (λ (q : Option (Meant Place)). SameSpot (Some (spot_at r name)) (and_then q (λ m. Some (spot_at (stands r) name)))) e
-          (record { same = refl; range = λ spot e. let i : spot_at r name ≡ spot = cc in subst (λ (x : Spot ℕ). x.place < n) i h })
-  leads_same (name ∷ next ∷ more) r h = at (standing (meant_in tree) (spot_at r name)) (standing (meant_at program) (spot_at (stands r) name)) (standing_same r name h) (leads_same (next ∷ more))
-    where
-      at : (o : Option ℕ) (p : Option Place) → SamePlace o p → ((c : ℕ) → c < n → SameSpot (leads (meant_in tree) c (next ∷ more)) (leads (meant_at program) (stands c) (next ∷ more))) →
-          SameSpot (and_then o (λ c. leads (meant_in tree) c (next ∷ more))) (and_then p (λ c. leads (meant_at program) c (next ∷ more)))
-      at None p s deeper = subst (λ (q : Option Place). SameSpot None (and_then q (λ c. leads (meant_at program) c (next ∷ more)))) s.same (record { same = refl; range = λ spot e. cc })
-      at (Some c) p s deeper = subst (λ (q : Option Place). SameSpot (leads (meant_in tree) c (next ∷ more)) (and_then q (λ c. leads (meant_at program) c (next ∷ more)))) s.same (deeper c (s.range c refl))
 
   -- ---- the sorts of names
 
@@ -146,9 +71,9 @@ module _ (program : Program) (tree : Tree) (right : RightTree program tree.rows 
   Sorted u w = (r : ℕ) (name : Name) → r < n → u (spot_at r name) ≡ w (spot_at (stands r) name)
 
   sorting_same : (u : Sorts ℕ) (w : Sorts Place) → Sorted u w → (r : ℕ) → r < n → sorting_by (meant_in tree) (row_variable tree) (symbol_sort program) u r ≡ sorting_by (meant_at program) (variable_at program) (symbol_sort program) w (stands r)
-  sorting_same u w a r h = fun_ext (λ path. at path (leads (meant_in tree) r path) (leads (meant_at program) (stands r) path) (leads_same path r h))
+  sorting_same u w a r h = fun_ext (λ path. at path (leads (meant_in tree) r path) (leads (meant_at program) (stands r) path) (leads_same program tree right path r h))
     where
-      at : (path : List Name) (o : Option (Spot ℕ)) (p : Option (Spot Place)) → SameSpot o p → sort_at (symbol_sort program) u path o ≡ sort_at (symbol_sort program) w path p
+      at : (path : List Name) (o : Option (Spot ℕ)) (p : Option (Spot Place)) → SameSpot program tree right o p → sort_at (symbol_sort program) u path o ≡ sort_at (symbol_sort program) w path p
       at path None p s = ap (sort_at (symbol_sort program) w path) s.same
       at path (Some spot) p s = a spot.place spot.name (s.range spot refl) ∙ ap (sort_at (symbol_sort program) w path) s.same
 
@@ -182,7 +107,7 @@ module _ (program : Program) (tree : Tree) (right : RightTree program tree.rows 
       ap (λ (u : Sorts ℕ). sorting_by (meant_in tree) (row_variable tree) (symbol_sort program) u r) (fun_ext tells)
       ∙ sorting_same (sorts_in (meant_in tree) (row_variable tree) (symbol_sort program)) (sorts_in (meant_at program) (variable_at program) (symbol_sort program)) (sorts_known most) r h
 
-  there : (o : Option ℕ) (p : Option Place) → SamePlace o p → is_some o ≡ is_some p
+  there : (o : Option ℕ) (p : Option Place) → SamePlace program tree right o p → is_some o ≡ is_some p
   there None p s = ap is_some s.same
   there (Some c) p s = ap is_some s.same
 
@@ -190,4 +115,4 @@ module _ (program : Program) (tree : Tree) (right : RightTree program tree.rows 
   pub row_stands : (table : List (Option ℕ)) (r : ℕ) → TellsStanding tree table → r < n → (e : Expr) → is_some (stood_for (by_slot tree (entry table)) r e) ≡ is_some (stood_for (standing (meant_at program)) (stands r) e)
   row_stands table r tells h e =
       ap (λ (s : Standing ℕ). is_some (stood_for s r e)) (fun_ext tells)
-      ∙ there (stood_for (standing (meant_in tree)) r e) (stood_for (standing (meant_at program)) (stands r) e) (stood_same (standing (meant_in tree)) (standing (meant_at program)) standing_same r e h)
+      ∙ there (stood_for (standing (meant_in tree)) r e) (stood_for (standing (meant_at program)) (stands r) e) (stood_same program tree right (standing (meant_in tree)) (standing (meant_at program)) (standing_same program tree right) r e h)

@@ -182,9 +182,9 @@ module _ (program : Program) (tree : Tree) (right : RightTree program tree.rows 
   n = length tree.rows
 
   -- an instance by number is the one by place
-  record SamePlace (o : Option ℕ) (p : Option Place) : Type 0 where
-    same : option_map stands o ≡ p
-    range : (c : ℕ) → o ≡ Some c → c < n
+  pub record SamePlace (o : Option ℕ) (p : Option Place) : Type 0 where
+    pub same : option_map stands o ≡ p
+    pub range : (c : ℕ) → o ≡ Some c → c < n
 
   place_some : (c : ℕ) → c < n → SamePlace (Some c) (Some (stands c))
   place_some c h = record { same = refl; range = λ d e. let i : c ≡ d = cc in subst (λ (x : ℕ). x < n) i h }
@@ -202,7 +202,7 @@ module _ (program : Program) (tree : Tree) (right : RightTree program tree.rows 
   meant_then (Some m) p g h s w more = subst (λ (q : Option (Meant Place)). SamePlace (g m) (and_then q h)) s (more m (w m refl))
 
   -- standings agree on the instances of the table
-  abbrev Agree : Standing ℕ → Standing Place → Type 0
+  abbrev pub Agree : Standing ℕ → Standing Place → Type 0
   Agree s t = (r : ℕ) (name : Name) → r < n → SamePlace (s (spot_at r name)) (t (spot_at (stands r) name))
 
   walked_same : (s : Standing ℕ) (t : Standing Place) → Agree s t → (path : List Name) (r : ℕ) → r < n → SamePlace (walked s r path) (walked t (stands r) path)
@@ -210,7 +210,7 @@ module _ (program : Program) (tree : Tree) (right : RightTree program tree.rows 
   walked_same s t a (name ∷ more) r h =
       place_then (s (spot_at r name)) (t (spot_at (stands r) name)) (λ p. walked s p more) (λ p. walked t p more) (a r name h) (walked_same s t a more)
 
-  stood_same : (s : Standing ℕ) (t : Standing Place) → Agree s t → (r : ℕ) (e : Expr) → r < n → SamePlace (stood_for s r e) (stood_for t (stands r) e)
+  pub stood_same : (s : Standing ℕ) (t : Standing Place) → Agree s t → (r : ℕ) (e : Expr) → r < n → SamePlace (stood_for s r e) (stood_for t (stands r) e)
   stood_same s t a r (expr.Name path) h = walked_same s t a path.names r h
   stood_same s t a r _ h = place_none
 
@@ -230,7 +230,7 @@ module _ (program : Program) (tree : Tree) (right : RightTree program tree.rows 
   known_same zero r name h = place_none
   known_same (suc turns) r name h = stand_same (known (stand_step (meant_in tree)) turns) (known (stand_step (meant_at program)) turns) (known_same turns) r name h
 
-  standing_same : Agree (standing (meant_in tree)) (standing (meant_at program))
+  pub standing_same : Agree (standing (meant_in tree)) (standing (meant_at program))
   standing_same = known_same most
 
   -- a declaration by number is the one by place

@@ -1,6 +1,6 @@
 -- Pieces, one more; and how the count goes on from the items to all that they reach.
 use Rattle.std.proofs.Common.{◌≡◌, ℕ, zero, suc, ◌+◌, Bool, true, false, ◌||◌, if◌then◌else◌, nat_eq, List, [], ◌∷◌, ◌++◌, take, fold, Some, None, refl, sym, ap, ◌∙◌, subst, arith, append_assoc, inl, inr, Decides}
-use Rattle.std.specs.Prelude.{◌≢◌, slice_get, AllPairs}
+use Rattle.std.specs.Prelude.{slice_get}
 use Rattle.std.specs.List.{flat_map, list_any, Contains, IsDistinct}
 use Rattle.std.specs.Option.{option_to_list}
 use Rattle.std.proofs.lemmas.Map.Made.{AllPairs-from_IsDistinct}

@@ -1,7 +1,6 @@
 -- Nodes as the code counts them, by the numbers of instances and of their names in a table.
-use Rattle.std.specs.Prelude.{ℕ, ◌&&◌, Bool, nat_eq, List, map, Option, slice_get}
+use Rattle.std.specs.Prelude.{ℕ, ◌&&◌, Bool, nat_eq, List, map, slice_get}
 use mathlib.Core.Bool.{beq}
-use Rattle.smv_ast.specs.declared.syntax.Expr.{Expr}
 use Rattle.smv_ast.specs.declared.program.Section.{Section}
 use Rattle.smv_ast.specs.declared.program.Program.{Program}
 use Rattle.smv_meaning.specs.declared.tree.Tree.{Tree}
@@ -11,7 +10,7 @@ use Rattle.smv_meaning.specs.Slots.{leads_to}
 use Rattle.smv_meaning.specs.Checking.{stands}
 use Rattle.smv_meaning.specs.RunCheck.{sections_at}
 use Rattle.smv_nodes.specs.declared.pieces.Piece.{Piece as HeldPiece}
-use Rattle.smv_nodes.specs.Count.{Lookup, content, Piece, Shared, item_pieces, IsCount}
+use Rattle.smv_nodes.specs.Count.{Lookup, content, Piece, Shared, item_pieces}
 
 -- the names of the instances of a table, by their slots
 abbrev pub of_table : Tree → Lookup ℕ ℕ

@@ -1,9 +1,9 @@
 -- The nodes that are counted in a right table, with each instance once, are those of the program.
-use Rattle.std.proofs.Common.{◌≡◌, ◌≢◌, ℕ, zero, suc, ◌<◌, Bool, List, [], ◌∷◌, ◌++◌, map, length, AllPairs, Contains, Option, Some, None, All, inl, inr, refl, sym, ap, ◌∙◌, subst}
-use Rattle.std.specs.Prelude.{slice_get, false}
+use Rattle.std.proofs.Common.{◌≡◌, ℕ, zero, suc, ◌<◌, Bool, List, [], ◌∷◌, ◌++◌, map, length, Option, Some, None, inl, inr, refl, sym, ap, ◌∙◌, subst}
+use Rattle.std.specs.Prelude.{false}
 use Rattle.std.specs.List.{flat_map}
 use Rattle.std.specs.Option.{option_map, option_to_list}
-use Rattle.std.proofs.lemmas.List.{map-append, append-nil}
+use Rattle.std.proofs.lemmas.List.{map-append}
 use Rattle.smv_ast.specs.declared.syntax.Expr.{Expr}
 use Rattle.smv_ast.specs.declared.program.Assignment.{Assignment}
 use Rattle.smv_ast.specs.declared.program.Section.{Section}
@@ -15,19 +15,19 @@ use Rattle.smv_meaning.specs.Value.{Name, and_then}
 use Rattle.smv_meaning.specs.Paths.{Spot, Meant, IsVariable, IsInstance, IsDefine, IsFormal, IsNothing, leads}
 use Rattle.smv_meaning.specs.Instances.{Place, meant_at}
 use Rattle.smv_meaning.specs.Tree.{placed, InRange, meant_seen}
-use Rattle.smv_meaning.specs.Slots.{slot_of, spot_of, meant_in, leads_to}
+use Rattle.smv_meaning.specs.Slots.{slot_of, meant_in, leads_to}
 use Rattle.smv_meaning.specs.Checking.{IsRight, AreRows, stands}
 use Rattle.smv_meaning.specs.RunCheck.{sections_at}
+use Rattle.smv_meaning.proofs.NumberLemmas.{leads_same}
 use Rattle.smv_cycles.specs.HeldCycles.{OneEach}
 use Rattle.smv_cycles.proofs.HeightLemmas.{in_some}
-use Rattle.smv_cycles.proofs.StandingLemmas.{leads_same}
 use Rattle.smv_cycles.proofs.ProgramLemmas as names
 use Rattle.smv_cycles.proofs.ProgramLemmas.{leads_slot}
 use Rattle.smv_kinds.proofs.MemberLemmas.{In, in_of, all_in, in_map, from_map, in_either}
 use Rattle.smv_nodes.specs.Own.{plus}
 use Rattle.smv_nodes.specs.Reads.{Mention, reads_of}
-use Rattle.smv_nodes.specs.Count.{Lookup, content, of_program, Piece, assigned_piece, section_pieces, place_pieces, item_pieces, own_nodes, Shared, name_nodes, shared_piece, shared_by, shared_among, shared_in, behind_reads, names_nodes, piece_nodes, pieces_nodes, pieces_behind, ReachedIn, IsReached, AreReached, IsCount}
-use Rattle.smv_nodes.specs.Held.{of_table, table_sections, table_pieces}
+use Rattle.smv_nodes.specs.Count.{Lookup, content, of_program, Piece, assigned_piece, section_pieces, item_pieces, own_nodes, Shared, name_nodes, shared_piece, shared_by, shared_among, shared_in, behind_reads, names_nodes, piece_nodes, pieces_nodes, pieces_behind, ReachedIn, AreReached, IsCount}
+use Rattle.smv_nodes.specs.Held.{of_table, table_pieces}
 use Rattle.smv_types.proofs.ApartLemmas.{Apart, pairs_of, apart_of, contains_in}
 
 module _ (program : Program) (tree : Tree) (right : IsRight program tree) where
