@@ -19,6 +19,7 @@ use crate::table::sorts_of;
 use smv_ast::{Fault, NoMemory, Program, Span};
 use smv_meaning::sections::SectionsByName;
 use smv_meaning::tree::Tree;
+use smv_names::symbols::symbols_of;
 use std::alloc::Global;
 
 /// The first item of an instance that does not keep the rule.
@@ -117,10 +118,12 @@ pub fn check_kinds(
     ensures first { TellsFirst (spec.kinds_fault program.now) result }
     ensures sound { IfOk result (λ _. soundness.AreShaped program.now → soundness.IsSound program.now) }
 {
+    let symbols = symbols_of(alloc, program)?;
     let net = Net {
         program,
         tree,
         standing,
+        symbols: &symbols,
     };
     check_net(alloc, &net, order)
 }

@@ -11,22 +11,21 @@ ghost use Rattle.smv_kinds.specs.Readings as spec;
 use crate::expressions::facts_of;
 use crate::net::{Net, Reader};
 use crate::sorts::{Sort, type_sort};
-use smv_ast::{Expr, List, NoMemory, Path, Program, Text};
+use smv_ast::{Expr, List, NoMemory, Path, Text};
 use smv_meaning::entries::Meaning;
 use smv_meaning::least::{Step, fill};
 use smv_meaning::standing::leads;
-use smv_meaning::symbols::is_symbol;
 use smv_meaning::tree::{Meant, Tree};
 use sqlite_items::at;
 use std::alloc::Global;
 
 /// The sort of a path that leads to no declaration.
-fn symbol_sort(program: &Program, path: &[Text]) -> Option<Sort>
-    ensures { result ≡ spec.symbol_sort program.now path.now }
+fn symbol_sort(net: &Net, path: &[Text]) -> Option<Sort>
+    ensures { result ≡ spec.symbol_sort net.now.program.now path.now }
 {
     match path {
         [name] => {
-            if is_symbol(program, name.as_str()) {
+            if net.is_symbol(name) {
                 return Some(Sort::Symbol);
             }
             Some(Sort::Nothing)
@@ -53,7 +52,7 @@ impl<'t> Reader<'t> {
         let net = self.net;
         match leads(net.tree, net.standing, self.row, path.names.as_slice()) {
             Some(slot) => told(self.table, slot),
-            None => symbol_sort(net.program, path.names.as_slice()),
+            None => symbol_sort(net, path.names.as_slice()),
         }
     }
 }
