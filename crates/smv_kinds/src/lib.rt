@@ -8,6 +8,7 @@ mod here;
 mod intervals;
 mod items;
 mod net;
+mod order;
 mod pass;
 mod places;
 mod sorts;

@@ -10,6 +10,7 @@ ghost use Rattle.smv_kinds.specs.Readings as spec;
 
 use crate::expressions::facts_of;
 use crate::net::{Net, Reader};
+use crate::order::reading_order;
 use crate::sorts::{Sort, type_sort};
 use smv_ast::{Expr, List, NoMemory, Path, Text};
 use smv_meaning::entries::Meaning;
@@ -129,22 +130,12 @@ impl<'t> Step<Sort> for Sorts<'t> {
     }
 }
 
-/// The slots, the last first. What reads names that stand further up or further down is then known
-/// after two sweeps.
-fn from_last(alloc: Global, count: usize) -> Result<List<usize>, NoMemory> {
-    let mut order = List::new(alloc);
-    for k in 0..count {
-        order.push(count - 1 - k)?;
-    }
-    Ok(order)
-}
-
 /// The sort of each slot.
 pub fn sorts_of(alloc: Global, net: &Net) -> Result<List<Option<Sort>>, NoMemory>
     ensures { IfOk result (λ table. spec.TellsSorts net.now.program.now net.now.tree.now table) }
 {
     let count = net.tree.slots.len();
-    let order = from_last(alloc, count)?;
+    let order = reading_order(alloc, net)?;
     let table = fill(alloc, &Sorts { net }, count, order.as_slice())?;
     Ok(table)
 }
