@@ -1,9 +1,10 @@
--- The number that the program ends with, by the status of the call.
+-- The exit status of the program.
 use Rattle.std.specs.Prelude.{ℕ}
 use Rattle.fsmv_top.specs.declared.status.Status.{Status}
 use Rattle.fsmv_top.specs.declared.status.Status.TheVariants as status
 
--- reports and texts 0 to 2, refusals 3 and 4, what fails outside 5 to 7, a report that is not accepted 8
+-- reports and texts 0 to 2, refusals 3 and 4, failures of the outside 5 to 7, a report that is not
+-- accepted 8
 abbrev pub number : Status → ℕ
 number status.Good = 0
 number status.Failing = 1

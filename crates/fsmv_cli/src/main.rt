@@ -1,5 +1,5 @@
-//! The program `fsmv`: hands its words, the machine's files and its standard output to the top call, and ends
-//! with the number of the status.
+//! The program `fsmv`: it passes its words, the machine's files and its standard output to the top
+//! call, and exits with the status's number.
 #![tactic(auto)]
 
 ghost use Rattle.std.specs.Prelude.{◌≡◌};
@@ -12,7 +12,7 @@ use std::alloc::AllocError;
 use std::process::ExitCode;
 use std::{env, io};
 
-/// Where the machine does not give the words.
+/// The exit status where the machine does not give the words.
 const NO_WORDS: u8 = 9;
 
 /// The words after the program's name.
@@ -24,14 +24,14 @@ fn words(rt: &HostRuntime) -> io::Result<Vec<String>> {
     Ok(words)
 }
 
-/// How the program ends by the status of the call.
+/// The exit status of the call.
 fn exit_code(status: Status) -> ExitCode
     ensures { exit_status result ≡ number status }
 {
     ExitCode::from(status as u8)
 }
 
-/// How the program ends where the machine does not give the words.
+/// The exit status where the machine does not give the words.
 fn without_words(error: &io::Error) -> ExitCode {
     match error.kind() {
         io::ErrorKind::OutOfMemory => exit_code(Status::NoMemory),

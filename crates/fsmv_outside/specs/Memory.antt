@@ -1,4 +1,4 @@
--- Files and a sink that are kept in memory.
+-- Files and a sink in memory.
 use Rattle.std.specs.Prelude.{ℕ, Bool, true, false, List, [], ◌∷◌, map, Option, Some, None, Result, Err, if◌then◌else◌, String, string_bytes}
 use Rattle.std.specs.Option.{unwrap_or}
 use Rattle.std.specs.Str.{bytes_eq}
@@ -14,12 +14,13 @@ use Rattle.fsmv_outside.specs.declared.sink.SinkFault.TheVariants.{Failed as Sin
 abbrev pub Entry : Type 0
 Entry = List ℕ × List ℕ
 
--- what the first file of the name holds
+-- the content of the first file of the name
 abbrev pub content_of : List Entry → List ℕ → Option (List ℕ)
 content_of [] name = None
-content_of (entry ∷ entries) name = if bytes_eq entry.0 name then Some entry.1 else content_of entries name
+content_of (entry ∷ entries) name = if bytes_eq entry.0 name then Some entry.1 else content_of
+    entries name
 
--- what the first file of the name holds; a name that is not held is an empty file
+-- the content of the first file of the name; an unknown name is an empty file
 abbrev pub content_or_empty : List Entry → List ℕ → List ℕ
 content_or_empty entries name = unwrap_or (content_of entries name) []
 

@@ -1,14 +1,14 @@
--- A plan of faults: which calls are to fail, and what has come of it so far.
+-- A plan of faults: the calls that are to fail, and the counts so far.
 use Rattle.std.specs.Prelude.{ℕ, Bool, List, if◌then◌else◌, Contains}
 use Rattle.fsmv_outside.specs.Count.{counted}
 
--- what is planned, and what has come of it
+-- a plan of faults
 pub record Plan : Type 0 where
   -- the numbers of the calls that are to fail, counted from 1
   pub failing : List ℕ
-  -- how many calls were made
+  -- the number of calls so far
   pub calls : ℕ
-  -- how many of them failed
+  -- the number of failed calls so far
   pub faults : ℕ
 
 -- a plan before the first call

@@ -1,4 +1,4 @@
-//! Counts that stay at the last value of a `u64`.
+//! Counts that saturate at the end of `u64`.
 
 ghost use Rattle.std.specs.Prelude.{◌≡◌};
 ghost use Rattle.fsmv_outside.specs.Count.{counted};

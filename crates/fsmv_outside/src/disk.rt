@@ -15,7 +15,7 @@ use std::marker::Model;
 use std::rt::Files as MachineFiles;
 use std::{fs, io};
 
-/// The files of the machine that runs the program. Their content is told to no contract.
+/// The files of the machine that runs the program. Their content is given to no contract.
 #[derive(Drop)]
 pub struct DiskFiles<'a, R> {
     rt: &'a R,
@@ -87,10 +87,10 @@ fn read_file<R: MachineFiles>(
     }
 }
 
-/// How many bytes one read asks for.
+/// The number of bytes that one read requests.
 const PIECE: usize = 4096;
 
-/// Appends what the file has left. At a refusal some of it may have been appended.
+/// Appends the rest of the file. After an error some of it may have been appended.
 pub(crate) fn read_to_end<F: Read>(
     file: &mut F,
     most: u64,
@@ -117,7 +117,7 @@ pub(crate) fn read_to_end<F: Read>(
     }
 }
 
-/// One read, again where a signal interrupts it.
+/// One read, repeated where a signal interrupts it.
 fn read_piece<F: Read>(file: &mut F, piece: &mut [u8]) -> Result<usize, FilesFault>
     ensures bound { ReadsAtMost result piece.new }
     ensures ok { IfOk result (λ count.
@@ -136,9 +136,10 @@ fn read_piece<F: Read>(file: &mut F, piece: &mut [u8]) -> Result<usize, FilesFau
     Err(FilesFault::Failed)
 }
 
-/// Want of memory, or a failed read.
+/// `NoMemory` where memory ran out, else a failed read.
 fn fault_of(error: &io::Error) -> FilesFault
-    ensures no_memory { (result ≡ FilesFault.NoMemory) ↔ (error_kind error.now ≡ ErrorKind.OutOfMemory) }
+    ensures no_memory { (result ≡ FilesFault.NoMemory)
+        ↔ (error_kind error.now ≡ ErrorKind.OutOfMemory) }
     ensures never_too_long { result ≢ FilesFault.TooLong }
 {
     if error.kind() == ErrorKind::OutOfMemory {

@@ -1,5 +1,5 @@
-//! The outside: where files are read and where text is written, on disk, in memory, and with faults
-//! that a test asks for.
+//! Files to read and a sink to write text to: on disk, in memory, and with planned faults for
+//! tests.
 #![tactic(auto)]
 
 mod count;

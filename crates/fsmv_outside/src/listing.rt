@@ -1,4 +1,4 @@
-//! A file among those that are kept in memory.
+//! Look-up of a file among files in memory.
 
 ghost use Rattle.std.specs.Prelude.{◌≡◌, ◌≢◌, ◌↔◌, ◌^◌, ◌<◌, ◌++◌, length, OnOk, OnErr, IfSome};
 ghost use Rattle.std.specs.Option.{option_copied};
@@ -9,7 +9,8 @@ use crate::files::FilesFault;
 /// The content of the first file of this name.
 pub(crate) fn find_file<'a>(files: &'a [(String, Vec<u8>)], name: &str) -> Option<&'a [u8]>
     ensures first { option_copied result ≡ content_of (listed files.now) name.now }
-    ensures short { IfSome (content_of (listed files.now) name.now) (λ content. length content < 2 ^ 63) }
+    ensures short { IfSome (content_of (listed files.now) name.now)
+        (λ content. length content < 2 ^ 63) }
 {
     for (held, content) in files {
         if held.as_str() == name {
@@ -19,7 +20,7 @@ pub(crate) fn find_file<'a>(files: &'a [(String, Vec<u8>)], name: &str) -> Optio
     None
 }
 
-/// The same, where a name that is not held is an empty file.
+/// The content of the first file of this name; an unknown name is an empty file.
 pub(crate) fn find_file_or_empty<'a>(files: &'a [(String, Vec<u8>)], name: &str) -> &'a [u8]
     ensures first { result.now ≡ content_or_empty (listed files.now) name.now }
 {

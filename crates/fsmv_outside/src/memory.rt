@@ -1,8 +1,8 @@
-//! Files and a sink in memory, which fail at the calls that are asked of them.
+//! Files and a sink in memory that fail at planned calls.
 
 ghost use Rattle.std.specs.Prelude.{◌≡◌, ◌↔◌, ◌⊎◌, ◌-◌, ◌^◌, ◌<◌, ◌≤◌, ◌++◌, [], Some, None, true, length, is_ok, if◌then◌else◌, IfSome, IsErr, OnOk, OnErr};
 ghost use Rattle.fsmv_outside.specs.Reading.{AppendsFile};
-ghost use Rattle.fsmv_outside.specs.Writing.{WritesFront};
+ghost use Rattle.fsmv_outside.specs.Writing.{WritesPrefix};
 ghost use Rattle.fsmv_outside.specs.Plan.{fresh_plan, after_call, IsToFail};
 ghost use Rattle.fsmv_outside.specs.Memory.{content_of, listed, read_failed, put_failed};
 
@@ -13,7 +13,7 @@ use crate::sink::{Sink, SinkFault};
 use std::alloc::Global;
 use std::marker::Model;
 
-/// Files in memory. The listed calls of `read_all` fail, and so does a name that is not held.
+/// Files in memory. The listed calls of `read_all` fail, and so does an unknown name.
 #[derive(Debug, Drop)]
 pub struct MemoryFiles {
     files: Vec<(String, Vec<u8>)>,
@@ -29,10 +29,14 @@ impl Model for MemoryFiles {
 }
 
 impl MemoryFiles {
-    /// The files by their names, the first of several with one name, and the numbers of the calls
-    /// that are to fail, counted from 1.
+    /// Files by their names, the first of several with one name, and the numbers of the calls that
+    /// are to fail, counted from 1.
     pub fn new(files: Vec<(String, Vec<u8>)>, failing: Vec<u32>) -> MemoryFiles
-        ensures { result ≡ record { entries = listed files.items; plan = fresh_plan failing.items } }
+        ensures { result ≡ record {
+          entries = listed files.items;
+          plan = fresh_plan
+              failing.items;
+        } }
     {
         MemoryFiles {
             files,
@@ -57,11 +61,13 @@ impl Files for MemoryFiles {
     ) -> Result<(), FilesFault>
         ensures fails { (result ≡ Err FilesFault.Failed) ↔
             (IsToFail self.old.plan ⊎ (content_of self.old.entries name.now ≡ None)) }
-        ensures counts { self.new ≡ record self.old { plan = after_call self.old.plan (read_failed result) } }
+        ensures counts { self.new ≡ record self.old
+            { plan = after_call self.old.plan (read_failed result) } }
         ensures faults_never_fall { self.old.plan.faults ≤ self.new.plan.faults }
 
         ensures ok { OnOk result
-            (AppendsFile (content_of self.old.entries name.now) most into.old.items into.new.items) }
+            (AppendsFile (content_of self.old.entries name.now) most into.old.items
+            into.new.items) }
         ensures refused { OnErr result (into.new.items ≡ into.old.items) }
 
         ensures too_long { result ≡ Err FilesFault.TooLong →
@@ -69,7 +75,8 @@ impl Files for MemoryFiles {
         ensures never_too_long { result ≡ Err FilesFault.TooLong → most < 2 ^ 63 - 1 }
         ensures longer { IfSome (content_of self.old.entries name.now)
             (λ content. most < length content → IsErr result) }
-        ensures short { IfSome (content_of self.old.entries name.now) (λ content. length content < 2 ^ 63) }
+        ensures short { IfSome (content_of self.old.entries name.now)
+            (λ content. length content < 2 ^ 63) }
     {
         let fails = self.plan.count_call();
         match find_file(&self.files, name) {
@@ -108,7 +115,7 @@ impl MemorySink {
         }
     }
 
-    /// What was written so far.
+    /// The bytes that were written so far.
     pub fn written(&self) -> &[u8]
         ensures { result.now ≡ self.now.content }
     {
@@ -129,7 +136,7 @@ impl Sink for MemorySink {
         } }
         ensures faults_never_fall { self.old.plan.faults ≤ self.new.plan.faults }
         ensures refused { OnErr result
-            (WritesFront (Some self.old.content) (Some self.new.content) piece.now) }
+            (WritesPrefix (Some self.old.content) (Some self.new.content) piece.now) }
     {
         if self.plan.count_call() {
             self.plan.count_fault();

@@ -7,7 +7,7 @@ ghost use Rattle.fsmv_outside.specs.Plan.{fresh_plan, after_call, IsToFail};
 use crate::count::count_one;
 use std::marker::Model;
 
-/// Which calls are to fail, counted from 1, and how many calls and faults there were.
+/// The numbers of the calls that are to fail, counted from 1, and the counts of calls and faults.
 #[derive(Debug, Drop)]
 pub(crate) struct FaultPlan {
     failing: Vec<u32>,
@@ -20,7 +20,8 @@ impl Model for FaultPlan {
 
     ghost Value = { Plan };
 
-    ghost view = { λ plan. record { failing = plan.failing.items; calls = plan.calls; faults = plan.faults } };
+    ghost view = { λ plan. record
+        { failing = plan.failing.items; calls = plan.calls; faults = plan.faults } };
 }
 
 impl FaultPlan {
@@ -35,7 +36,7 @@ impl FaultPlan {
         }
     }
 
-    /// Counts a call, and tells whether it is to fail.
+    /// Counts a call, and returns whether it is to fail.
     pub(crate) fn count_call(&mut self) -> bool
         ensures fails { IsTrue result ↔ IsToFail self.old }
         ensures counts { self.new ≡ after_call self.old false }

@@ -5,7 +5,7 @@ ghost use Rattle.std.specs.IoError.{error_kind};
 ghost use Rattle.std.specs.Io.{WritesAtMost};
 ghost use Rattle.std.specs.Io.KnownBytes.{Appends, Keeps};
 ghost use Rattle.fsmv_outside.specs.Count.{counted, Rose};
-ghost use Rattle.fsmv_outside.specs.Writing.{with_piece, WritesFront};
+ghost use Rattle.fsmv_outside.specs.Writing.{with_piece, WritesPrefix};
 
 use crate::count::count_one;
 use crate::sink::{Sink, SinkFault};
@@ -13,7 +13,7 @@ use std::io;
 use std::io::{ErrorKind, Write};
 use std::marker::Model;
 
-/// The standard output of the program. What was written is told to no contract.
+/// The standard output of the program. Its content is given to no contract.
 #[derive(Drop)]
 pub struct StandardOut<'a, R> {
     rt: &'a R,
@@ -47,9 +47,9 @@ impl<R: Print> Sink for StandardOut<'_, R> {
         ensures faults_never_fall { self.old ≤ self.new }
         ensures failed { result ≡ Err SinkFault.Failed → Rose self.old self.new }
 
-        // Nothing is told.
+        // the content is not given
         ensures ok { OnOk result (None ≡ with_piece None piece.now) }
-        ensures refused { OnErr result (WritesFront None None piece.now) }
+        ensures refused { OnErr result (WritesPrefix None None piece.now) }
     {
         let outcome = write_whole(&mut io::writer(self.rt), piece);
         if outcome.is_err() {
@@ -59,25 +59,25 @@ impl<R: Print> Sink for StandardOut<'_, R> {
     }
 }
 
-/// Writes the whole piece. A write that takes nothing is a fault. At a refusal some first
-/// bytes of the piece may have been written.
+/// Writes all the bytes. A write that takes no byte is a fault. After an error a prefix of them may
+/// have been written.
 pub(crate) fn write_whole<W: Write>(out: &mut W, piece: &[u8]) -> Result<(), SinkFault>
     ensures ok { OnOk result (Appends (W.contents out.old) (W.contents out.new) piece.now) }
     ensures refused { OnErr result ((count : ℕ) ×
         Appends (W.contents out.old) (W.contents out.new) (take count piece.now)) }
 {
-    let mut rest = piece;
-    while !rest.is_empty() {
-        let count = write_some(out, rest)?;
+    let mut suffix = piece;
+    while !suffix.is_empty() {
+        let count = write_some(out, suffix)?;
         if count == 0 {
             return Err(SinkFault::Failed);
         }
-        rest = &rest[count..];
+        suffix = &suffix[count..];
     }
     Ok(())
 }
 
-/// One write, again where a signal interrupts it.
+/// One write, repeated where a signal interrupts it.
 fn write_some<W: Write>(out: &mut W, piece: &[u8]) -> Result<usize, SinkFault>
     ensures bound { WritesAtMost result piece.now }
     ensures ok { IfOk result (λ count.
@@ -94,7 +94,7 @@ fn write_some<W: Write>(out: &mut W, piece: &[u8]) -> Result<usize, SinkFault>
     Err(SinkFault::Failed)
 }
 
-/// Want of memory, or a failed write.
+/// `NoMemory` where memory ran out, else a failed write.
 fn fault_of(error: &io::Error) -> SinkFault
     ensures { (result ≡ SinkFault.NoMemory) ↔ (error_kind error.now ≡ ErrorKind.OutOfMemory) }
 {

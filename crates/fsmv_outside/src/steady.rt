@@ -2,7 +2,7 @@
 
 ghost use Rattle.std.specs.Prelude.{◌≡◌, ◌≢◌, ◌↔◌, ◌-◌, ◌^◌, ◌<◌, ◌++◌, [], Some, true, length, is_ok, if◌then◌else◌, OnOk, OnErr};
 ghost use Rattle.fsmv_outside.specs.Reading.{AppendsFile};
-ghost use Rattle.fsmv_outside.specs.Writing.{WritesFront};
+ghost use Rattle.fsmv_outside.specs.Writing.{WritesPrefix};
 ghost use Rattle.fsmv_outside.specs.Memory.{content_or_empty, listed};
 
 use crate::files::{Files, FilesFault};
@@ -11,7 +11,7 @@ use crate::sink::{Sink, SinkFault};
 use std::alloc::Global;
 use std::marker::Model;
 
-/// Files in memory that never fail. A name that is not held reads as an empty file.
+/// Files in memory that never fail. An unknown name reads as an empty file.
 #[derive(Debug, Drop)]
 pub struct SteadyFiles {
     files: Vec<(String, Vec<u8>)>,
@@ -27,7 +27,7 @@ impl Model for SteadyFiles {
 }
 
 impl SteadyFiles {
-    /// The files by their names, the first of several with one name.
+    /// Files by their names, the first of several with one name.
     pub fn new(files: Vec<(String, Vec<u8>)>) -> SteadyFiles
         ensures { result ≡ listed files.items }
     {
@@ -54,7 +54,8 @@ impl Files for SteadyFiles {
         ensures too_long { (result ≡ Err FilesFault.TooLong) ↔
             (most < length (content_or_empty self.old name.now)) }
         ensures ok { OnOk result
-            (AppendsFile (Some (content_or_empty self.old name.now)) most into.old.items into.new.items) }
+            (AppendsFile (Some (content_or_empty self.old name.now)) most into.old.items
+            into.new.items) }
         ensures refused { OnErr result (into.new.items ≡ into.old.items) }
         ensures short { length (content_or_empty self.old name.now) < 2 ^ 63 }
     {
@@ -86,7 +87,7 @@ impl SteadySink {
         }
     }
 
-    /// What was written so far.
+    /// The bytes that were written so far.
     pub fn written(&self) -> &[u8]
         ensures { result.now ≡ self.now }
     {
@@ -102,7 +103,7 @@ impl Sink for SteadySink {
     fn put(&mut self, piece: &[u8]) -> Result<(), SinkFault>
         ensures never_failed { result ≢ Err SinkFault.Failed }
         ensures content { self.new ≡ (if is_ok result then self.old ++ piece.now else self.old) }
-        ensures refused { OnErr result (WritesFront (Some self.old) (Some self.new) piece.now) }
+        ensures refused { OnErr result (WritesPrefix (Some self.old) (Some self.new) piece.now) }
     {
         self.content.extend_from_slice(piece)?;
         Ok(())

@@ -13,7 +13,7 @@ use std::io::{ErrorKind, Read, Write};
 use std::test::Fail;
 use std::{fs, io};
 
-// Two reads in a row, as a caller makes them that is generic over the files.
+// Two reads in a row, by a caller that is generic over the files.
 fn read_both<F: Files>(
     alloc: Global,
     files: &mut F,
@@ -25,8 +25,9 @@ fn read_both<F: Files>(
     requires first_allowed { IsTrue (F.may_read files.old first.now) }
     requires second_allowed { IsTrue (F.may_read files.old second.now) }
     ensures held_stays { F.held files.new ≡ F.held files.old }
-    ensures failed { result ≡ Err FilesFault.Failed → Rose (F.faults files.old) (F.faults files.new) }
-    ensures told { OnOk result (IfSome (F.held files.old first.now) (λ one.
+    ensures failed { result ≡ Err FilesFault.Failed
+        → Rose (F.faults files.old) (F.faults files.new) }
+    ensures given { OnOk result (IfSome (F.held files.old first.now) (λ one.
         IfSome (F.held files.old second.now) (λ two.
         into.new.items ≡ into.old.items ++ one ++ two))) }
 {
@@ -34,7 +35,7 @@ fn read_both<F: Files>(
     files.read_all(alloc, second, most, into)
 }
 
-// Two pieces in a row, as a caller writes them that is generic over the sink.
+// Two writes in a row, by a caller that is generic over the sink.
 fn put_both<S: Sink>(sink: &mut S, first: &[u8], second: &[u8]) -> Result<(), SinkFault>
     ensures ok { OnOk result
         (S.content sink.new ≡ with_piece (S.content sink.old) (first.now ++ second.now)) }

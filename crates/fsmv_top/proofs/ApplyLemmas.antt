@@ -1,4 +1,4 @@
--- Changes one after another: the first that has a fault, and those behind one that has none.
+-- A list of changes: the first with a fault, and those after one without.
 use Rattle.std.proofs.Common.{◌≡◌, ℕ, List, ◌∷◌, Option, None, ap, sym, ◌∙◌}
 use Rattle.std.specs.Prelude.{Err}
 use Rattle.smv_ast.specs.declared.fault.Fault.{Fault}
@@ -8,8 +8,8 @@ use Rattle.smv_ast.specs.declared.feature.Change.{Change}
 use Rattle.smv_meaning.specs.Runs.{or_else}
 use Rattle.fsmv_top.specs.Weaving.{change_fault, changes_fault, apply_change, AppliesChange, AppliesChanges}
 
-pub fault_behind : (feature : List ℕ) (p : Program) (change : Change) (more : List Change) → change_fault feature p change ≡ None → changes_fault feature p (change ∷ more) ≡ changes_fault feature (apply_change p change) more
-fault_behind feature p change more e = ap (λ (o : Option Fault). or_else o (changes_fault feature (apply_change p change) more)) e
+pub later_fault : (feature : List ℕ) (p : Program) (change : Change) (more : List Change) → change_fault feature p change ≡ None → changes_fault feature p (change ∷ more) ≡ changes_fault feature (apply_change p change) more
+later_fault feature p change more e = ap (λ (o : Option Fault). or_else o (changes_fault feature (apply_change p change) more)) e
 
 pub fault_here : (feature : List ℕ) (p q : Program) (change : Change) (more changes : List Change) (f : Fault) → changes_fault feature p (change ∷ more) ≡ changes_fault feature q changes
     → AppliesChange feature p change (Err f) → AppliesChanges feature q changes (Err f)

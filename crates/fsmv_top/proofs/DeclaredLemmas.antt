@@ -6,7 +6,7 @@ use Rattle.smv_ast.specs.declared.program.Declaration.{Declaration}
 use Rattle.smv_ast.specs.declared.program.Section.{Section}
 use Rattle.fsmv_top.specs.UsedNames.{declarations, declarations_of}
 
-pub found_step : (test : Declaration → Bool) (all left rest : List Section) (s : Section) (found : Option Declaration) → find test (declarations all) ≡ find test (declarations left)
-    → left ≡ s ∷ rest → find test (declarations_of s) ≡ found → find test (declarations all) ≡ option_or found (find test (declarations rest))
-found_step test all left rest s found so_far split here =
-    so_far ∙ ap (λ ss. find test (declarations ss)) split ∙ find-append test (declarations_of s) (declarations rest) ∙ ap (λ o. option_or o (find test (declarations rest))) here
+pub found_step : (test : Declaration → Bool) (all left tail : List Section) (s : Section) (found : Option Declaration) → find test (declarations all) ≡ find test (declarations left)
+    → left ≡ s ∷ tail → find test (declarations_of s) ≡ found → find test (declarations all) ≡ option_or found (find test (declarations tail))
+found_step test all left tail s found so_far split here =
+    so_far ∙ ap (λ ss. find test (declarations ss)) split ∙ find-append test (declarations_of s) (declarations tail) ∙ ap (λ o. option_or o (find test (declarations tail))) here

@@ -6,4 +6,5 @@ pub mod ApplyLemmas
 pub mod WordLemmas
 pub mod FeatureRules
 pub mod OutputLemmas
-pub mod StopLemmas
+pub mod ErrorLemmas
+pub mod OneAnswer

@@ -1,5 +1,5 @@
--- Applying one IMPOSE to a module: `IF c THEN IMPOSE next(x) := e` makes `next(x)` the value of `e` where `c` is true,
--- and leaves it as it was elsewhere.
+-- One IMPOSE, applied to a module: `IF c THEN IMPOSE next(x) := e` makes `next(x)` the value of `e`
+-- where `c` is true, and leaves it unchanged elsewhere.
 use Rattle.std.specs.Prelude.{ℕ, ◌+◌, Bool, true, false, ◌&&◌, not, List, [], ◌∷◌, ◌++◌, Option, Some, None, if◌then◌else◌, map, find, ℤ, pos, negsuc, min, ◌-◌, ◌^◌, is_some}
 use Rattle.std.specs.List.{list_any}
 use Rattle.std.specs.Option.{option_and_then, option_map_or}
@@ -29,17 +29,19 @@ use Rattle.fsmv_top.specs.declared.integration.impose.Imposed.{Imposed}
 use Rattle.fsmv_top.specs.Lists.{change_first}
 use Rattle.fsmv_top.specs.UsedNames.{declarations}
 
--- ---- where an assignment stands
+-- ---- guarding an assignment
 
 -- `case c : e; TRUE : old; esac`
 abbrev pub guarded : Expr → Expr → Expr → Expr
-guarded cond value old = expr.Cases (roll-Branch (record { cond = cond; value = value }) ∷ roll-Branch (record { cond = expr.True; value = old }) ∷ [])
+guarded cond value old = expr.Cases
+    (roll-Branch (record { cond = cond; value = value }) ∷ roll-Branch
+    (record { cond = expr.True; value = old }) ∷ [])
 
--- the same time: the first value, the next, or that of every state
+-- left sides of the same time: the first value, the next, or that in every state
 unfoldable pub same_left : Left → Left → Bool
 same_left = sameb the_type
 
--- an assignment of this left side
+-- an assignment with this left side
 abbrev pub has_left : Left → List ℕ → Assignment → Bool
 has_left left name a = same_left a.left left && bytes_eq a.name name
 
@@ -47,19 +49,20 @@ has_left left name a = same_left a.left left && bytes_eq a.name name
 abbrev pub guarded_assignment : Imposed → Assignment → Assignment
 guarded_assignment i a = record a { right = guarded i.cond i.right a.right }
 
--- whether the section has an assignment of this left side
+-- whether the section has an assignment with this left side
 abbrev pub assigns : Left → List ℕ → Section → Bool
 assigns left name (section.Assigns assignments) = list_any (has_left left name) assignments
 assigns left name s = false
 
 -- the section with its first assignment of the left side guarded
 abbrev pub guarded_section : Imposed → Section → Section
-guarded_section i (section.Assigns assignments) = section.Assigns (change_first (has_left i.left i.name) (guarded_assignment i) assignments)
+guarded_section i (section.Assigns assignments) = section.Assigns
+    (change_first (has_left i.left i.name) (guarded_assignment i) assignments)
 guarded_section i s = s
 
--- ---- where none stands
+-- ---- adding an assignment
 
--- a number of a type as an expression; one past the last value of a u32, which no model holds, is cut to it
+-- a number of a type as an expression; a number beyond `u32`, which no model has, is cut to its end
 abbrev pub number : ℤ → Expr
 number (pos n) = expr.Number (min n (2 ^ 32 - 1))
 number (negsuc n) = expr.Neg (expr.Number (min (n + 1) (2 ^ 32 - 1)))
@@ -90,31 +93,36 @@ abbrev pub one_more : Section → Assignment → Section
 one_more (section.Assigns assignments) a = section.Assigns (assignments ++ a ∷ [])
 one_more s a = s
 
--- an assignment more: at the end of the last ASSIGN section, or in one of its own behind all others
+-- the sections with one more assignment: at the end of the last ASSIGN section, or in a new section
+-- at the end
 abbrev pub with_assignment : List Section → Assignment → List Section
 with_assignment [] a = section.Assigns (a ∷ []) ∷ []
-with_assignment (s ∷ more) a = if is_assigns s && not (list_any is_assigns more) then one_more s a ∷ more else s ∷ with_assignment more a
+with_assignment (s ∷ more) a = if is_assigns s
+    && not (list_any is_assigns more) then one_more s a ∷ more else s ∷ with_assignment more a
 
--- an assignment that keeps one of these values where the condition is false
+-- an assignment that allows these values where the condition is false
 abbrev pub kept_assignment : Imposed → Choice → Assignment
-kept_assignment i values = record { left = i.left; name = i.name; right = guarded i.cond i.right (expr.Pick values); at = i.at }
+kept_assignment i values = record
+    { left = i.left; name = i.name; right = guarded i.cond i.right (expr.Pick values); at = i.at }
 
--- the sections with an assignment of the type's values appended; none where the name has no type
+-- the sections with an assignment of the type's values added; unchanged where the name has no type
 abbrev pub with_new : Imposed → List Section → Option SmvType → List Section
 with_new i sections None = sections
 with_new i sections (Some t) = with_assignment sections (kept_assignment i (all_values i.at t))
 
 -- the type of a variable: that of its first declaration
 abbrev pub type_of : List ℕ → List Section → Option SmvType
-type_of name sections = option_and_then (λ d. plain_type d.what) (find (λ d. bytes_eq name d.name) (declarations sections))
+type_of name sections = option_and_then (λ d. plain_type d.what)
+    (find (λ d. bytes_eq name d.name) (declarations sections))
 
--- ---- the whole of it
+-- ---- the model with the IMPOSE applied
 
--- The first assignment of the left side is guarded. Where there is none, one is made, which keeps any value of the type
--- where the condition is false.
+-- The first assignment of the left side is guarded. Without one, one is added that allows any value
+-- of the type where the condition is false.
 abbrev pub imposed_on : Imposed → List Section → List Section
 imposed_on i sections =
-    if list_any (assigns i.left i.name) sections then change_first (assigns i.left i.name) (guarded_section i) sections
+    if list_any (assigns i.left i.name) sections then change_first (assigns i.left i.name)
+    (guarded_section i) sections
     else with_new i sections (type_of i.name sections)
 
 -- the module with the IMPOSE applied
@@ -129,20 +137,23 @@ is_named name m = bytes_eq name m.name
 abbrev pub imposed : Imposed → List ℕ → Program → Program
 imposed i name p = record p { modules = change_first (is_named name) (imposed_in i) p.modules }
 
--- ---- where it may be applied
+-- ---- faults
 
 -- the sections of the first module of a name
 abbrev pub sections_named : List ℕ → Program → List Section
 sections_named name p = option_map_or (λ m. m.sections) (find (is_named name) p.modules) []
 
--- an IMPOSE of `x` needs an assignment `x :=`, one of `init(x)` or `next(x)` needs that there is none
+-- an IMPOSE of `x` needs an assignment `x :=`; one of `init(x)` or `next(x)` needs that there is
+-- none
 abbrev pub fits_assignments : Left → List ℕ → List Section → Bool
 fits_assignments left.Now name sections = list_any (assigns left.Now name) sections
 fits_assignments left.Init name sections = not (list_any (assigns left.Now name) sections)
 fits_assignments left.Next name sections = not (list_any (assigns left.Now name) sections)
 
--- why an IMPOSE cannot be applied to these sections: its target has no type, or its form does not fit their assignments
+-- the fault of an IMPOSE on these sections: its target has no type, or its form does not fit their
+-- assignments
 abbrev pub impose_fault : Span → Left → List ℕ → List Section → Option Fault
 impose_fault at of name sections =
-    if is_some (type_of name sections) then (if fits_assignments of name sections then None else Some (fault.ImposeKind (Some at) name))
+    if is_some (type_of name sections) then
+    (if fits_assignments of name sections then None else Some (fault.ImposeKind (Some at) name))
     else Some (fault.ImposeTarget (Some at) name)

@@ -4,7 +4,7 @@ pub mod Impose
 pub mod Words
 pub mod Refusals
 pub mod Weaving
-pub mod Stops
+pub mod WeaveErrors
 pub mod Plan
 pub mod Answers
 pub mod FeatureText

@@ -1,4 +1,4 @@
--- The line or text that a call is to write, and the status that goes with it.
+-- The text that a call is to write, and its status.
 use Rattle.std.specs.Prelude.{◌≡◌, ℕ, List, Option, ◌⊎◌}
 use Rattle.smv_ast.specs.declared.fault.Fault.{Fault}
 use Rattle.smv_expr.specs.Lexicon.{Bytes}
@@ -9,7 +9,7 @@ use Rattle.fsmv_top.specs.Words.{IsWeave}
 use Rattle.fsmv_top.specs.Refusals.{refusal_line, read_fault_line, usage_line}
 use Rattle.fsmv_top.specs.Weaving.{IsWoven, IsRefused, IsUnread}
 
--- what the object tells of each name
+-- the content of each file, where the object gives it
 abbrev pub Held : Type 0
 Held = List ℕ → Option Bytes
 
@@ -21,38 +21,43 @@ pub record Weaves (words : List (List ℕ)) : Type 0 where
   pub product : List ℕ
   pub named : IsWeave words base model feature product
 
--- the files are refused, and the line says why
-pub record RefusesFiles (base_told feature_told : Option Bytes) (product text : List ℕ) : Type 0 where
+-- the files are refused, and the line reports the fault
+pub record RefusesFiles (base_given feature_given : Option Bytes) (product text : List ℕ) : Type 0 where
   pub fault : Fault
-  pub refused : IsRefused base_told feature_told product fault
+  pub refused : IsRefused base_given feature_given product fault
   pub line : text ≡ refusal_line product fault
 
--- a file could not be read, the faults rose, and the line says which
-pub record MissesFile (base_told : Option Bytes) (before after : ℕ) (text : List ℕ) : Type 0 where
+-- a file could not be read, the count of faults rose, and the line names the file
+pub record MissesFile (base_given : Option Bytes) (before after : ℕ) (text : List ℕ) : Type 0 where
   pub file : ℕ
-  pub unread : IsUnread base_told file
+  pub unread : IsUnread base_given file
   pub rose : Rose before after
   pub line : text ≡ read_fault_line file
 
--- What `weave` is to write, by the status: over what is told of its base and its feature, the product's list of names,
--- and the files' faults before and after.
+-- The text that `weave` is to write, by status, given the content of its base and its feature, the
+-- product's list of names, and the files' faults before and after.
 abbrev pub IsWeavePlan : Option Bytes → Option Bytes → List ℕ → ℕ → ℕ → Status → List ℕ → Type 0
-IsWeavePlan base_told feature_told product before after status.Good text = IsWoven base_told feature_told product text
-IsWeavePlan base_told feature_told product before after status.Refused text = RefusesFiles base_told feature_told product text
-IsWeavePlan base_told feature_told product before after status.ReadFault text = MissesFile base_told before after text
-IsWeavePlan base_told feature_told product before after _ text = ⊥
+IsWeavePlan base_given feature_given product before after status.Good text = IsWoven base_given
+    feature_given product text
+IsWeavePlan base_given feature_given product before after status.Refused text = RefusesFiles
+    base_given feature_given product text
+IsWeavePlan base_given feature_given product before after status.ReadFault text = MissesFile
+    base_given before after text
+IsWeavePlan base_given feature_given product before after _ text = ⊥
 
 -- the plan of `weave`, on the files that the words name
 pub record IsCommandPlan (words : List (List ℕ)) (held : Held) (before after : ℕ) (s : Status) (text : List ℕ) : Type 0 where
   pub command : Weaves words
-  pub plan : IsWeavePlan (held command.base) (held command.feature) command.product before after s text
+  pub plan : IsWeavePlan (held command.base) (held command.feature) command.product before after s
+      text
 
--- the words are no command, and the line says how to call
+-- the words are no command, and the text is the usage line
 pub record IsUsagePlan (words : List (List ℕ)) (s : Status) (text : List ℕ) : Type 0 where
   pub no_command : Weaves words → ⊥
   pub status : s ≡ status.Usage
   pub line : text ≡ usage_line
 
--- what a call is to write, and the status that goes with it
+-- the text that a call is to write, and its status
 abbrev pub IsPlan : List (List ℕ) → Held → ℕ → ℕ → Status → List ℕ → Type 0
-IsPlan words held before after s text = IsCommandPlan words held before after s text ⊎ IsUsagePlan words s text
+IsPlan words held before after s text = IsCommandPlan words held before after s text
+    ⊎ IsUsagePlan words s text

@@ -1,4 +1,4 @@
--- The lines that tell why nothing else is written.
+-- The lines that report faults.
 use Rattle.std.specs.Prelude.{ℕ, List, [], ◌∷◌, ◌++◌, Option, Some, None, codes}
 use Rattle.std.specs.Fmt.{decimal}
 use Rattle.smv_ast.specs.PrintedExpr.{each_after}
@@ -47,48 +47,48 @@ fault_name (fault.NoSpec at) = codes "NoSpec"
 fault_name (fault.TooDeep at cost) = codes "TooDeep"
 fault_name fault.NoMemory = codes "NoMemory"
 
--- its place, where it has one
-abbrev pub fault_place : Fault → Option Span
-fault_place (fault.Syntax at) = at
-fault_place (fault.LeftOut at word) = at
-fault_place (fault.WideNumber at) = at
-fault_place (fault.TooNested at) = at
-fault_place (fault.TooLong at) = at
-fault_place (fault.ReservedName at name) = at
-fault_place (fault.DuplicateFeature at name) = at
-fault_place (fault.UnknownFeature at name) = at
-fault_place (fault.TooManyFeatures at count) = at
-fault_place (fault.DuplicateText at name) = at
-fault_place (fault.FeatureNotInModel at name) = at
-fault_place (fault.NoProduct at) = at
-fault_place (fault.NotValid at word) = at
-fault_place (fault.RequireMissing at feature name product) = at
-fault_place (fault.RequireType at feature name) = at
-fault_place (fault.IntroduceClash at feature name) = at
-fault_place (fault.IntroducedInstance at feature name) = at
-fault_place (fault.IntroducedAssign at feature name) = at
-fault_place (fault.ImposeTarget at name) = at
-fault_place (fault.ImposeKind at name) = at
-fault_place (fault.TreatTarget at path) = at
-fault_place (fault.UnknownName at path) = at
-fault_place (fault.UnknownModule at name) = at
-fault_place (fault.RecursiveModule at name) = at
-fault_place (fault.ArgumentCount at name) = at
-fault_place (fault.DuplicateName at name) = at
-fault_place (fault.KindMismatch at) = at
-fault_place (fault.EmptyRange at) = at
-fault_place (fault.NegativeMod at) = at
-fault_place (fault.ChoicePlace at) = at
-fault_place (fault.NextPlace at) = at
-fault_place (fault.DoubleAssign at name) = at
-fault_place (fault.ParameterAssign at name) = at
-fault_place (fault.CyclicDefine at cycle) = at
-fault_place (fault.TooLarge at) = at
-fault_place (fault.NoSpec at) = at
-fault_place (fault.TooDeep at cost) = at
-fault_place fault.NoMemory = None
+-- the span of a fault, if it has one
+abbrev pub fault_span : Fault → Option Span
+fault_span (fault.Syntax at) = at
+fault_span (fault.LeftOut at word) = at
+fault_span (fault.WideNumber at) = at
+fault_span (fault.TooNested at) = at
+fault_span (fault.TooLong at) = at
+fault_span (fault.ReservedName at name) = at
+fault_span (fault.DuplicateFeature at name) = at
+fault_span (fault.UnknownFeature at name) = at
+fault_span (fault.TooManyFeatures at count) = at
+fault_span (fault.DuplicateText at name) = at
+fault_span (fault.FeatureNotInModel at name) = at
+fault_span (fault.NoProduct at) = at
+fault_span (fault.NotValid at word) = at
+fault_span (fault.RequireMissing at feature name product) = at
+fault_span (fault.RequireType at feature name) = at
+fault_span (fault.IntroduceClash at feature name) = at
+fault_span (fault.IntroducedInstance at feature name) = at
+fault_span (fault.IntroducedAssign at feature name) = at
+fault_span (fault.ImposeTarget at name) = at
+fault_span (fault.ImposeKind at name) = at
+fault_span (fault.TreatTarget at path) = at
+fault_span (fault.UnknownName at path) = at
+fault_span (fault.UnknownModule at name) = at
+fault_span (fault.RecursiveModule at name) = at
+fault_span (fault.ArgumentCount at name) = at
+fault_span (fault.DuplicateName at name) = at
+fault_span (fault.KindMismatch at) = at
+fault_span (fault.EmptyRange at) = at
+fault_span (fault.NegativeMod at) = at
+fault_span (fault.ChoicePlace at) = at
+fault_span (fault.NextPlace at) = at
+fault_span (fault.DoubleAssign at name) = at
+fault_span (fault.ParameterAssign at name) = at
+fault_span (fault.CyclicDefine at cycle) = at
+fault_span (fault.TooLarge at) = at
+fault_span (fault.NoSpec at) = at
+fault_span (fault.TooDeep at cost) = at
+fault_span fault.NoMemory = None
 
--- the values that it keeps, a product as the given text
+-- the values of a fault; a product is the given text
 abbrev pub fault_kept : List ℕ → Fault → List (List ℕ)
 fault_kept product (fault.Syntax at) = []
 fault_kept product (fault.LeftOut at word) = word ∷ []
@@ -129,19 +129,19 @@ fault_kept product (fault.NoSpec at) = []
 fault_kept product (fault.TooDeep at cost) = decimal cost ∷ []
 fault_kept product fault.NoMemory = []
 
--- `FILE OFFSET`, or `- -` where there is no place
-abbrev pub printed_place : Option Span → List ℕ
-printed_place None = codes "- -"
-printed_place (Some at) = decimal at.file ++ codes " " ++ decimal at.at
+-- `FILE OFFSET`, or `- -` without a span
+abbrev pub printed_span : Option Span → List ℕ
+printed_span None = codes "- -"
+printed_span (Some at) = decimal at.file ++ codes " " ++ decimal at.at
 
 -- `refused NAME FILE OFFSET KEPT`
 abbrev pub refusal_line : List ℕ → Fault → List ℕ
-refusal_line product f = codes "refused " ++ fault_name f ++ codes " " ++ printed_place (fault_place f) ++ each_after (codes " ") (fault_kept product f) ++ codes "\n"
+refusal_line product f = codes "refused " ++ fault_name f ++ codes " " ++ printed_span (fault_span f) ++ each_after (codes " ") (fault_kept product f) ++ codes "\n"
 
 -- `fault read FILE`
 abbrev pub read_fault_line : ℕ → List ℕ
 read_fault_line file = codes "fault read " ++ decimal file ++ codes "\n"
 
--- how `fsmv` is called
+-- the usage line
 abbrev pub usage_line : List ℕ
 usage_line = codes "usage: fsmv weave|prove|check|make, see the manual\n"

@@ -1,5 +1,5 @@
--- The names that a change uses, and the first of them that is not known. A feature may be applied only where each name
--- that it uses is known at that moment.
+-- The names that a change uses, and the first of them that is unknown. A change may be applied only
+-- where each name that it uses is known.
 use Rattle.std.specs.Prelude.{ℕ, not, if◌then◌else◌, List, [], ◌∷◌, Option, Some, None, find}
 use Rattle.std.specs.List.{flat_map}
 use Rattle.std.specs.Option.{option_map, option_or}
@@ -15,7 +15,7 @@ use Rattle.smv_ast.specs.declared.feature.Action.TheVariants.{Impose, Treat}
 use Rattle.smv_ast.specs.declared.feature.Change.{Change}
 use Rattle.smv_meaning.specs.Mentions.{paths_of}
 use Rattle.smv_meaning.specs.Runs.{path_text}
-use Rattle.smv_names.specs.Unknown.{has_meaning, declared_in}
+use Rattle.smv_names.specs.Unknown.{is_resolved, declared_in}
 use Rattle.fsmv_top.specs.declared.integration.names.MissingName.{MissingName}
 
 -- ---- declarations
@@ -25,33 +25,37 @@ abbrev pub declarations_of : Section → List Declaration
 declarations_of (section.Vars declarations) = declarations
 declarations_of s = []
 
--- those of a module, in the order of the text
+-- the declarations of a module, in text order
 abbrev pub declarations : List Section → List Declaration
 declarations = flat_map declarations_of
 
--- ---- the first name that is missing
+-- ---- the first missing name
 
--- a path as it is told: its names joined by dots, and its place
+-- a missing path: its names joined by dots, and its span
 abbrev pub missing_path : Path → MissingName
 missing_path path = record { name = path_text path.names; at = path.at }
 
--- the first of these paths that is not known in a module and is no symbol
+-- the first of these paths that is neither known in a module nor a symbol
 abbrev pub first_unknown : Program → List ℕ → List Path → Option Path
-first_unknown p called = find (λ path. not (has_meaning p called path.names))
+first_unknown p called = find (λ path. not (is_resolved p called path.names))
 
--- the same of the paths of an expression, in the order of the text
+-- the first missing path of an expression, in text order
 abbrev pub missing_expr : Program → List ℕ → Expr → Option MissingName
 missing_expr p called e = option_map missing_path (first_unknown p called (paths_of e))
 
--- a target that the module does not declare, which stands at the word of its action; a symbol is no target
+-- a target that the module does not declare, at the span of its action; a symbol is no target
 abbrev pub missing_target : Program → List ℕ → Span → List ℕ → Option MissingName
-missing_target p called at name = if declared_in p called name then None else Some (record { name = name; at = at })
+missing_target p called at name = if declared_in p called name then None else Some
+    (record { name = name; at = at })
 
--- the first missing name of an action: its target, then those of its right side
+-- the first missing name of an action: its target, then the paths of its right side
 abbrev pub missing_action : Program → List ℕ → Span → Action → Option MissingName
-missing_action p called at (Impose left name right) = option_or (missing_target p called at name) (missing_expr p called right)
-missing_action p called at (Treat path right) = option_or (option_map missing_path (first_unknown p called (path ∷ []))) (missing_expr p called right)
+missing_action p called at (Impose left name right) = option_or (missing_target p called at name)
+    (missing_expr p called right)
+missing_action p called at (Treat path right) = option_or
+    (option_map missing_path (first_unknown p called (path ∷ []))) (missing_expr p called right)
 
--- the first missing name of a change: those of its condition come first
+-- the first missing name of a change: the paths of its condition first
 abbrev pub first_missing : Program → Change → Option MissingName
-first_missing p change = option_or (missing_expr p change.«module» change.cond) (missing_action p change.«module» change.at change.action)
+first_missing p change = option_or (missing_expr p change.«module» change.cond)
+    (missing_action p change.«module» change.at change.action)

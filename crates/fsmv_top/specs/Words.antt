@@ -7,10 +7,10 @@ use Rattle.std.specs.Str.{bytes_eq}
 abbrev pub IsWeave : List (List ℕ) → List ℕ → List ℕ → List ℕ → List ℕ → Type 0
 IsWeave words base model feature product = words ≡ codes "weave" ∷ base ∷ model ∷ feature ∷ codes "--product" ∷ product ∷ []
 
--- a list of names is cut at its commas
-abbrev pub pieces : List ℕ → List (List ℕ)
-pieces = slice_split (λ b. b == 44)
+-- a list of names, split at its commas
+abbrev pub read_exprs : List ℕ → List (List ℕ)
+read_exprs = slice_split (λ b. b == 44)
 
--- whether one of the pieces is the name
+-- whether one of the names is this one
 abbrev pub lists : List ℕ → List ℕ → Bool
-lists product name = list_any (λ piece. bytes_eq piece name) (pieces product)
+lists product name = list_any (λ read_expr. bytes_eq read_expr name) (read_exprs product)

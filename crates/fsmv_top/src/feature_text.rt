@@ -1,4 +1,4 @@
-//! The texts of features that are read now: one feature with one IMPOSE in `main`.
+//! The supported texts of features: one feature with one IMPOSE in `main`.
 
 ghost use Rattle.std.specs.Prelude.{◌≡◌, ◌∷◌, [], ◌<◌, ◌^◌, length, IfOk};
 ghost use Rattle.smv_expr.specs.Reading.{Gives};
@@ -13,7 +13,7 @@ use smv_expr::kind::Kind;
 use smv_parse::names::{LeftSide, name_in_parens};
 use std::alloc::Global;
 
-/// `IMPOSE left side := right;`, and the place of its first word.
+/// `IMPOSE left side := right;`, and the span of its first word.
 #[derive(Drop)]
 pub struct ImposeText {
     pub at: Span,
@@ -92,7 +92,8 @@ fn change_text(alloc: Global, tokens: &mut Cursor<'_>) -> Result<Change, ReadErr
 }
 
 fn with_change(alloc: Global, name: Text, change: Change, at: Span) -> Result<Feature, NoMemory>
-    ensures { IfOk result (λ f. f ≡ record { name = name; needs = []; joins = []; changes = change ∷ []; at = at }) }
+    ensures { IfOk result (λ f. f
+        ≡ record { name = name; needs = []; joins = []; changes = change ∷ []; at = at }) }
 {
     let mut changes = List::new(alloc);
     changes.push(change)?;
@@ -116,9 +117,9 @@ fn feature_text(alloc: Global, tokens: &mut Cursor<'_>) -> Result<Feature, ReadE
     Ok(with_change(alloc, name, change, at)?)
 }
 
-/// The feature that the bytes of a file are.
+/// The feature in the bytes of a file.
 ///
-/// Else the fault at the first token with which, after the tokens before it, no text of this form begins, as for models.
+/// Else the fault at the first token at which the text is none of this form, or beyond the limits, as for models.
 pub fn read_feature(alloc: Global, file: u32, bytes: &[u8]) -> Result<Feature, Fault>
     requires { length bytes.now < 2 ^ 32 }
     ensures { spec.FeatureAnswer file bytes.now result }

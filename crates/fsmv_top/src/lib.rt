@@ -1,4 +1,4 @@
-//! The top call of fsmv: the words of a command in, one text and one status out.
+//! The top call of fsmv: from the words of a command to one text and one status.
 #![tactic(auto)]
 
 mod command;

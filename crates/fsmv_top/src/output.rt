@@ -2,11 +2,11 @@
 
 ghost use Rattle.std.specs.Prelude.{◌≡◌, ◌<◌, ◌≤◌, length, OnOk, OnErr, is_some};
 ghost use Rattle.fsmv_outside.specs.Count.{Rose};
-ghost use Rattle.fsmv_outside.specs.Writing.{with_piece, WritesFront};
+ghost use Rattle.fsmv_outside.specs.Writing.{with_piece, WritesPrefix};
 
 use fsmv_outside::{Sink, SinkFault};
 
-/// How long the first line of the text is, with its line feed, if it has one.
+/// The length of the first line of the text, with its line feed, if it has one.
 fn line_len(text: &[u8]) -> usize
     requires { 0 < length text.now }
     ensures some { 0 < result }
@@ -18,19 +18,19 @@ fn line_len(text: &[u8]) -> usize
     }
 }
 
-/// Writes the text, each line with its line feed as one piece, up to the first piece that is refused.
+/// Writes the text, each line with its line feed in one write, up to the first write that fails.
 pub fn put_lines<S: Sink>(out: &mut S, text: &[u8]) -> Result<(), SinkFault>
-    ensures tells { is_some (S.content out.new) ≡ is_some (S.content out.old) }
+    ensures reports { is_some (S.content out.new) ≡ is_some (S.content out.old) }
     ensures faults_never_fall { S.faults out.old ≤ S.faults out.new }
     ensures ok { OnOk result (S.content out.new ≡ with_piece (S.content out.old) text.now) }
-    ensures refused { OnErr result (WritesFront (S.content out.old) (S.content out.new) text.now) }
+    ensures refused { OnErr result (WritesPrefix (S.content out.old) (S.content out.new) text.now) }
     ensures failed { result ≡ Err SinkFault.Failed → Rose (S.faults out.old) (S.faults out.new) }
 {
-    let mut rest = text;
-    while !rest.is_empty() {
-        let (line, more) = rest.split_at(line_len(rest));
+    let mut tail = text;
+    while !tail.is_empty() {
+        let (line, more) = tail.split_at(line_len(tail));
         out.put(line)?;
-        rest = more;
+        tail = more;
     }
     Ok(())
 }

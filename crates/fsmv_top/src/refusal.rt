@@ -1,4 +1,4 @@
-//! The lines that tell why nothing else is written.
+//! The lines that report faults.
 
 ghost use Rattle.std.specs.Prelude.{◌≡◌, ◌++◌, codes, IfOk, OnOk, string_bytes};
 ghost use Rattle.std.specs.Fmt.{decimal};
@@ -54,8 +54,8 @@ fn fault_name(fault: &Fault) -> &'static str
     }
 }
 
-fn fault_place(fault: &Fault) -> Option<Span>
-    ensures { result ≡ spec.fault_place fault.now }
+fn fault_span(fault: &Fault) -> Option<Span>
+    ensures { result ≡ spec.fault_span fault.now }
 {
     match fault {
         Fault::Syntax { at }
@@ -168,10 +168,10 @@ fn push_kept(out: &mut String, product: &str, fault: &Fault) -> Result<(), Alloc
     }
 }
 
-fn push_place(out: &mut String, place: Option<Span>) -> Result<(), AllocError>
-    ensures { OnOk result (string_bytes out.new ≡ string_bytes out.old ++ spec.printed_place place) }
+fn push_span(out: &mut String, span: Option<Span>) -> Result<(), AllocError>
+    ensures { OnOk result (string_bytes out.new ≡ string_bytes out.old ++ spec.printed_span span) }
 {
-    let Some(at) = place else {
+    let Some(at) = span else {
         return out.push_str("- -");
     };
     push_number(out, at.file as u64)?;
@@ -179,20 +179,20 @@ fn push_place(out: &mut String, place: Option<Span>) -> Result<(), AllocError>
     push_number(out, at.at as u64)
 }
 
-/// The line of a refusal. A product that the fault keeps is told as `product`.
+/// The line of a refusal; `product` is the text of a product that the fault has.
 pub fn refusal_line(alloc: Global, product: &str, fault: &Fault) -> Result<String, NoMemory>
     ensures { IfOk result (λ line. string_bytes line ≡ spec.refusal_line product.now fault.now) }
 {
     let mut out = String::from_str(alloc, "refused ")?;
     out.push_str(fault_name(fault))?;
     out.push_str(" ")?;
-    push_place(&mut out, fault_place(fault))?;
+    push_span(&mut out, fault_span(fault))?;
     push_kept(&mut out, product, fault)?;
     out.push_str("\n")?;
     Ok(out)
 }
 
-/// The line that tells which file cannot be read, by its number.
+/// The line that reports a file that cannot be read, by its number.
 pub fn read_fault_line(alloc: Global, file: u32) -> Result<String, NoMemory>
     ensures { IfOk result (λ line. string_bytes line ≡ spec.read_fault_line file) }
 {

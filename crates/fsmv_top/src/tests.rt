@@ -39,7 +39,7 @@ fn all_words(alloc: Global, words: &[&str]) -> Result<Vec<String>, AllocError> {
     Ok(found)
 }
 
-/// The status of a call over these files, and what it wrote.
+/// The status of a call over these files, and the text that it wrote.
 fn call(
     alloc: Global,
     words: &[&str],
@@ -112,7 +112,7 @@ fn weaves_one_product(rt: HostRuntime) -> Result<(), Fail> {
 }
 
 #[test]
-fn refuses_what_is_at_fault(rt: HostRuntime) -> Result<(), Fail> {
+fn refuses_faulty_texts(rt: HostRuntime) -> Result<(), Fail> {
     let unknown = "FEATURE Fast CHANGE MODULE main IF y = 2 THEN IMPOSE next(x) := 3; END";
     let target = "FEATURE Fast CHANGE MODULE main IF x = 2 THEN IMPOSE next(z) := w; END";
     let path = "FEATURE Fast CHANGE MODULE main IF c.y = 2 THEN IMPOSE next(x) := 3; END";
@@ -203,7 +203,7 @@ fn refuses_long_files(rt: HostRuntime) -> Result<(), Fail> {
 }
 
 #[test]
-fn tells_how_it_is_called(rt: HostRuntime) -> Result<(), Fail> {
+fn reports_its_usage(rt: HostRuntime) -> Result<(), Fail> {
     let rows: [&[&str]; 5] = [
         &[],
         &["prove", "m"],
@@ -221,7 +221,7 @@ fn tells_how_it_is_called(rt: HostRuntime) -> Result<(), Fail> {
 }
 
 #[test]
-fn tells_faults_outside(rt: HostRuntime) -> Result<(), Fail> {
+fn reports_outside_faults(rt: HostRuntime) -> Result<(), Fail> {
     let rows = [
         ("m", "f", 1, 0, Status::ReadFault, "fault read 0\n"),
         ("m", "f", 2, 0, Status::ReadFault, "fault read 2\n"),

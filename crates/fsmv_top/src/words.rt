@@ -15,8 +15,10 @@ pub struct WeaveWords<'a> {
 /// The words of `weave`, if these are of its form.
 pub fn weave_words(words: &[String]) -> Option<WeaveWords<'_>>
     ensures { MatchOption result
-        ((base model feature product : List ℕ) → IsWeave (map string_bytes words.entry.now) base model feature product → ⊥)
-        (λ w. IsWeave (map string_bytes words.entry.now) w.base.now w.model.now w.feature.now w.product.now) }
+        ((base model feature product : List ℕ)
+        → IsWeave (map string_bytes words.entry.now) base model feature product → ⊥)
+        (λ w. IsWeave (map string_bytes words.entry.now) w.base.now w.model.now w.feature.now
+        w.product.now) }
 {
     let [command, base, model, feature, option, product] = words else {
         return None;
@@ -36,5 +38,5 @@ pub fn weave_words(words: &[String]) -> Option<WeaveWords<'_>>
 pub fn lists(product: &str, name: &str) -> bool
     ensures { result ≡ lists product.now name.now }
 {
-    product.split(',').any(|piece| piece == name)
+    product.split(',').any(|read_expr| read_expr == name)
 }

@@ -7,7 +7,7 @@ use Rattle.std.proofs.lemmas.List.{map-set}
 use Rattle.std.proofs.lemmas.List.Elements.{All-head, All-tail}
 use Rattle.std.proofs.lemmas.List.Folds.{list_any_more}
 use Rattle.sat_lits.specs.Literals.{negation}
-use Rattle.sat_lits.specs.Steps.{with, denied}
+use Rattle.sat_lits.specs.Steps.{with, negated}
 use Rattle.proof_check.specs.Marks.{marked}
 
 -- no stamp has a round that comes later
@@ -20,18 +20,18 @@ none_fresh (s ∷ stamps) round below =
     let tail : map (λ stamp. stamp == round) stamps ≡ replicate (length stamps) false = none_fresh stamps round (All-tail (λ (stamp : ℕ). stamp < round) s stamps below) in
     cc
 
--- the flags after a stamp got the present round
-pub flags-set : (stamps : List ℕ) (l round : ℕ) → map (λ stamp. stamp == round) (set stamps l round) ≡ set (map (λ stamp. stamp == round) stamps) l true
-flags-set stamps l round = map-set (λ stamp. stamp == round) stamps l round ∙ ap (λ b. set (map (λ stamp. stamp == round) stamps) l b) (eq-eqb round round refl)
+-- the literal_set after a stamp got the present round
+pub literal_set-set : (stamps : List ℕ) (l round : ℕ) → map (λ stamp. stamp == round) (set stamps l round) ≡ set (map (λ stamp. stamp == round) stamps) l true
+literal_set-set stamps l round = map-set (λ stamp. stamp == round) stamps l round ∙ ap (λ b. set (map (λ stamp. stamp == round) stamps) l b) (eq-eqb round round refl)
 
--- a set flag is one more literal that is known
-pub marked-set : (flags : List Bool) (l : ℕ) → l < length flags → marked (set flags l true) ≡ with (marked flags) l
-marked-set flags l within = λ i m. at m i
+-- a set insert_all is one more literal that is known
+pub marked-set : (literal_set : List Bool) (l : ℕ) → l < length literal_set → marked (set literal_set l true) ≡ with (marked literal_set) l
+marked-set literal_set l within = λ i m. at m i
   where
-    at : (m : ℕ) → marked (set flags l true) m ≡ with (marked flags) l m
+    at : (m : ℕ) → marked (set literal_set l true) m ≡ with (marked literal_set) l m
     at m = elim (cases_eq m l) [
-      | inl e ↦ ap (λ n. get_or (set flags l true) n false) e ∙ get_or-set_same flags l true false within ∙ sym (or_left (m == l) (marked flags m) (eq-eqb m l e))
-      | inr ne ↦ get_or-set_other flags l m true false ne ∙ sym (ap (λ b. b || marked flags m) (ne_eqb m l ne))
+      | inl e ↦ ap (λ n. get_or (set literal_set l true) n false) e ∙ get_or-set_same literal_set l true false within ∙ sym (or_left (m == l) (marked literal_set m) (eq-eqb m l e))
+      | inr ne ↦ get_or-set_other literal_set l m true false ne ∙ sym (ap (λ b. b || marked literal_set m) (ne_eqb m l ne))
     ]
 
 pub marked-none : (n l : ℕ) → marked (replicate n false) l ≡ false
@@ -39,17 +39,17 @@ marked-none zero l = refl
 marked-none (suc n) zero = refl
 marked-none (suc n) (suc l) = marked-none n l
 
-eqb_turned : (a b : ℕ) → (a == b) ≡ (b == a)
-eqb_turned a b = elim (cases_eq a b) [
+eqb_symmetric : (a b : ℕ) → (a == b) ≡ (b == a)
+eqb_symmetric a b = elim (cases_eq a b) [
   | inl e ↦ eq-eqb a b e ∙ sym (eq-eqb b a (sym e))
   | inr ne ↦ ne_eqb a b ne ∙ sym (ne_eqb b a (λ e. ne (sym e)))
 ]
 
--- one more literal of a clause is denied
-pub denied-more : (flags : List Bool) (lits : List ℕ) (i : ℕ) (l : ℕ) → i < length lits → l ≡ get_or lits i l → negation l < length flags → ((m : ℕ) → marked flags m ≡ denied (take i lits) m) → (m : ℕ) → marked (set flags (negation l) true) m ≡ denied (take (i + 1) lits) m
-denied-more flags lits i l within is room before m =
-    ap (λ known. known m) (marked-set flags (negation l) room)
-    ∙ or_comm (m == negation l) (marked flags m)
+-- one more literal of a clause is negated
+pub negated-more : (literal_set : List Bool) (lits : List ℕ) (i : ℕ) (l : ℕ) → i < length lits → l ≡ get_or lits i l → negation l < length literal_set → ((m : ℕ) → marked literal_set m ≡ negated (take i lits) m) → (m : ℕ) → marked (set literal_set (negation l) true) m ≡ negated (take (i + 1) lits) m
+negated-more literal_set lits i l within is room before m =
+    ap (λ known. known m) (marked-set literal_set (negation l) room)
+    ∙ or_comm (m == negation l) (marked literal_set m)
     ∙ ap (λ b. b || (m == negation l)) (before m)
-    ∙ ap (λ b. denied (take i lits) m || b) (eqb_turned m (negation l) ∙ ap (λ x. negation x == m) is)
+    ∙ ap (λ b. negated (take i lits) m || b) (eqb_symmetric m (negation l) ∙ ap (λ x. negation x == m) is)
     ∙ sym (list_any_more (λ x. negation x == m) lits i l within)

@@ -8,7 +8,7 @@ use Rattle.std.proofs.lemmas.Bool.{cases_eq}
 use Rattle.sat_lits.specs.Clauses.{Follows}
 use Rattle.sat_lits.specs.Steps.{numbered, named, replaced}
 use Rattle.sat_lits.proofs.Numbered.{numbered-nil, numbered-push, numbered-replaced_other, numbered-replaced_same, numbered-replaced_none}
-use Rattle.sat_lits.proofs.Sound.{standing_line}
+use Rattle.sat_lits.proofs.Sound.{live_line}
 use Rattle.proof_check.specs.Marks.{HasRoom}
 use Rattle.proof_check.specs.CheckerState.{KeepsTogether}
 
@@ -37,7 +37,7 @@ KeepsTogether-grown axioms lines n m le keeps = record { follow = keeps.follow; 
 -- an id of the grown log names an old clause or the new one
 named-push : (axioms : List (List ℕ)) (lines : List (Option (List ℕ))) (clause other : List ℕ) (id : Id) → named axioms (lines ++ Some clause ∷ []) id ≡ Some other → (named axioms lines id ≡ Some other) ⊎ (clause ≡ other)
 named-push axioms lines clause other (Axiom n) is = inl is
-named-push axioms lines clause other (Derived n) is = elim (numbered-push lines (Some clause) (Some other) n (standing_line (numbered (lines ++ Some clause ∷ []) n) other is)) [
+named-push axioms lines clause other (Derived n) is = elim (numbered-push lines (Some clause) (Some other) n (live_line (numbered (lines ++ Some clause ∷ []) n) other is)) [
   | inl old ↦ inl (ap (λ line. option_and_then (λ l. l) line) old)
   | inr new ↦ inr (cc)
 ]
@@ -75,4 +75,4 @@ KeepsTogether-retire axioms lines retired n keeps = record {
   where
     named_before : (id : Id) (clause : List ℕ) → named axioms (replaced lines retired None) id ≡ Some clause → All (λ l. l + 1 < n) clause
     named_before (Axiom m) clause is = keeps.room (Axiom m) clause is
-    named_before (Derived m) clause is = keeps.room (Derived m) clause (ap (λ line. option_and_then (λ l. l) line) (stood lines retired m clause (standing_line (numbered (replaced lines retired None) m) clause is)))
+    named_before (Derived m) clause is = keeps.room (Derived m) clause (ap (λ line. option_and_then (λ l. l) line) (stood lines retired m clause (live_line (numbered (replaced lines retired None) m) clause is)))

@@ -1,4 +1,4 @@
--- What becomes of a clause, from the places of its literals that are not false.
+-- What becomes of a clause, from the positions of its literals that are not false.
 use Rattle.std.proofs.Common.{◌≡◌, ℕ, Bool, true, false, List, arith, inl, inr, get_or, length, ◌<◌, ◌≤◌, ◌+◌, sym, ◌∙◌, ap, subst}
 use Rattle.std.specs.Prelude.{slice_index}
 use Rattle.std.proofs.lemmas.Bool.{cases_eq, both_ways, cases_order}
@@ -10,7 +10,7 @@ use Rattle.sat_lits.specs.Steps.{IsFalsified, Forces}
 use Rattle.sat_lits.proofs.Rising.{rises}
 
 module _ (known : ℕ → Bool) (clause : List ℕ) where
-  -- the literal at this place is not false
+  -- the literal at this position is not false
   abbrev IsOpenAt : ℕ → Type 0
   IsOpenAt i = known (negation (slice_index clause i)) ≡ false
 
@@ -26,11 +26,11 @@ module _ (known : ℕ → Bool) (clause : List ℕ) where
 
   -- a clause with a true literal is neither falsified nor forces one
   pub idle_by_true : (i x : ℕ) → i < length clause → x ≡ get_or clause i x → IsOpenAt i → known x ≡ true → (IsFalsified known clause → ⊥) × ((l : ℕ) → Forces known clause l → ⊥)
-  idle_by_true i x within is idle told = (
+  idle_by_true i x within is idle true_in = (
     not_falsified i within idle,
     λ l forces.
         let here : x ≡ l = is ∙ get_or_default clause i x 0 within ∙ forced_is i l within idle forces in
-        both_ways (known l) forces.not_true (subst (λ (n : ℕ). known n ≡ true) here told),
+        both_ways (known l) forces.not_true (subst (λ (n : ℕ). known n ≡ true) here true_in),
   )
 
   -- nor does one with two literals that are not false

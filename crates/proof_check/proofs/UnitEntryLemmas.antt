@@ -4,14 +4,14 @@ use Rattle.std.proofs.lemmas.List.{get_or_default}
 use Rattle.std.proofs.lemmas.Bool.{false≢true}
 use Rattle.sat_lits.specs.Steps.{HoldsUnit}
 use Rattle.sat_lits.specs.Table.{number_of, Indexes}
-use Rattle.sat_lits.proofs.IndexLemmas.{Indexes-Stands}
+use Rattle.sat_lits.proofs.IndexLemmas.{Indexes-IsLive}
 use Rattle.proof_check.specs.UnitEntry.{HasUnitEntry}
 
 -- the table tells which clauses hold a unit beside other literals
 pub HasUnitEntry-HoldsUnit : (table : List (List ℕ × ℕ)) (lines : List (Option (List ℕ))) (clause : List ℕ) → Indexes table lines → (HasUnitEntry table clause ↔ HoldsUnit lines clause)
 HasUnitEntry-HoldsUnit table lines clause index = (
-  λ (longer, some). record { longer = longer; literal = some.0; holds = some.1; stands = (Indexes-Stands table lines (some.0 ∷ []) index).0 some.2 },
-  λ h. (h.longer, (h.literal, h.holds, (Indexes-Stands table lines (h.literal ∷ []) index).1 h.stands)),
+  λ (longer, some). record { longer = longer; literal = some.0; holds = some.1; stands = (Indexes-IsLive table lines (some.0 ∷ []) index).0 some.2 },
+  λ h. (h.longer, (h.literal, h.holds, (Indexes-IsLive table lines (h.literal ∷ []) index).1 h.stands)),
 )
 
 -- no literal has a unit clause in the table

@@ -3,6 +3,6 @@ use Rattle.sat_lits.specs.Steps.{LinesFollow}
 use Rattle.proof_check.specs.Marks.{HasRoom}
 
 -- what the fields of a checker keep
-pub record KeepsTogether (axioms : List (List ℕ)) (lines : List (Option (List ℕ))) (flags : ℕ) : Type 0 where
+pub record KeepsTogether (axioms : List (List ℕ)) (lines : List (Option (List ℕ))) (literal_set : ℕ) : Type 0 where
   pub follow : LinesFollow axioms lines
-  pub room : HasRoom axioms lines flags
+  pub room : HasRoom axioms lines literal_set

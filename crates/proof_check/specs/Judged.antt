@@ -1,6 +1,6 @@
 -- The rules of a log's lines, and what a checker answers by them.
 use Rattle.std.specs.Prelude.{◌≡◌, ℕ, ◌+◌, ◌-◌, ◌^◌, min, List, [], ◌∷◌, ◌++◌, Option, Some, None, length, MatchOption}
-use Rattle.sat_lits.specs.Steps.{IsRight, IsRedundant, IsRetirable, replaced}
+use Rattle.sat_lits.specs.Steps.{IsRupStep, IsRedundant, IsRetirable, replaced}
 use Rattle.proof_check.specs.declared.lines.DerivedLine.{DerivedLine}
 use Rattle.proof_check.specs.declared.lines.LogLine.{LogLine}
 use Rattle.proof_check.specs.declared.lines.LogLine.TheVariants.{Derived, Retired}
@@ -28,7 +28,7 @@ abbrev pub KeepsRules : Judged → LogLine → Type 0
 KeepsRules state (Derived line) =
     HasNextNumber state line
     × (IsRedundant state.lines line.clause → ⊥)
-    × IsRight state.axioms state.lines line.clause line.hints
+    × IsRupStep state.axioms state.lines line.clause line.hints
 KeepsRules state (Retired number) = IsRetirable state.lines number
 
 -- the first rule that the line breaks is this one
@@ -38,7 +38,7 @@ Breaks state (Derived line) Repeat = HasNextNumber state line × IsRedundant sta
 Breaks state (Derived line) Step =
     HasNextNumber state line
     × (IsRedundant state.lines line.clause → ⊥)
-    × (IsRight state.axioms state.lines line.clause line.hints → ⊥)
+    × (IsRupStep state.axioms state.lines line.clause line.hints → ⊥)
 Breaks state (Derived line) Retire = ⊥
 Breaks state (Retired number) Retire = IsRetirable state.lines number → ⊥
 Breaks state (Retired number) Number = ⊥

@@ -2,10 +2,11 @@ use Rattle.std.specs.Prelude.{◌≡◌, ℕ, ◌+◌, ◌<◌, Bool, false, Lis
 use Rattle.sat_lits.specs.Steps.{named}
 use Rattle.smv_ast.specs.declared.proof.Id.{Id}
 
--- the literals whose flag is set
+-- the literals whose insert_all is set
 abbrev pub marked : List Bool → (ℕ → Bool)
-marked flags = λ l. slice_index_or flags l false
+marked literal_set = λ l. slice_index_or literal_set l false
 
 -- the literals of every clause that an id can name, and their negations, lie below this number
 abbrev pub HasRoom : List (List ℕ) → List (Option (List ℕ)) → ℕ → Type 0
-HasRoom axioms lines room = (id : Id) (clause : List ℕ) → named axioms lines id ≡ Some clause → All (λ l. l + 1 < room) clause
+HasRoom axioms lines room = (id : Id) (clause : List ℕ) → named axioms lines id ≡ Some clause
+    → All (λ l. l + 1 < room) clause

@@ -4,9 +4,9 @@ ghost use Rattle.sat_lits.specs.Steps.{LinesFollow};
 ghost use Rattle.proof_check.specs.Marks.{HasRoom};
 
 use crate::lines::{DerivedLine, LogLine, StepAnswer, StepRule};
+use crate::live::LiveLines;
 use crate::marks::Marks;
-use crate::standing::StandingLines;
-use crate::steps::is_right;
+use crate::steps::is_rup_step;
 use sat_lits::Clause;
 use smv_ast::NoMemory;
 use std::alloc::Global;
@@ -21,7 +21,7 @@ use std::marker::Model;
 pub struct Checker {
     alloc: Global,
     axioms: Vec<Clause>,
-    lines: StandingLines,
+    lines: LiveLines,
     marks: Marks,
     line: u64,
     broken: Option<StepRule>,
@@ -35,7 +35,8 @@ impl Model for Checker {
 
     ghost use Rattle.proof_check.specs.CheckerState.{KeepsTogether};
 
-    ghost view = { λ c. record { axioms = c.axioms.items; lines = c.lines; line = c.line; broken = c.broken } };
+    ghost view = { λ c. record
+        { axioms = c.axioms.items; lines = c.lines; line = c.line; broken = c.broken } };
 
     ghost invariant = { λ c. KeepsTogether c.axioms.items c.lines (length c.marks) };
 }
@@ -46,7 +47,8 @@ impl Checker {
     /// A checker of a log over these axioms, which have numbers from 1. The first line of the log
     /// has the number `first`. More axioms than a `u32` can number count as memory that is not there.
     pub fn new(alloc: Global, axioms: &[Clause], first: u64) -> Result<Checker, NoMemory>
-        ensures { IfOk result (λ checker. checker ≡ record { axioms = axioms.now; lines = []; line = first; broken = None }) }
+        ensures { IfOk result (λ checker. checker
+            ≡ record { axioms = axioms.now; lines = []; line = first; broken = None }) }
     {
         if axioms.len() > u32::MAX as usize {
             return Err(NoMemory);
@@ -56,7 +58,7 @@ impl Checker {
         Ok(Checker {
             alloc,
             axioms,
-            lines: StandingLines::new(alloc),
+            lines: LiveLines::new(alloc),
             marks,
             line: first,
             broken: None,
@@ -68,7 +70,9 @@ impl Checker {
     /// broke, now and for each later line. After `NoMemory` the checker is unchanged.
     pub fn step(&mut self, line: &LogLine) -> Result<StepAnswer, NoMemory>
         ensures answer { IfOk result (Answers self.old line.now self.new) }
-        ensures exact { IfOk result (λ answer. (answer ≡ StepAnswer.Ok) ↔ ((self.old.broken ≡ None) × KeepsRules self.old line.now)) }
+        ensures exact { IfOk result
+            (λ answer. (answer ≡ StepAnswer.Ok)
+            ↔ ((self.old.broken ≡ None) × KeepsRules self.old line.now)) }
         ensures follow { LinesFollow self.new.axioms self.new.lines }
 
         // Whatever was derived stays redundant: no clause is derived twice, retired ones counted.
@@ -111,7 +115,7 @@ impl Checker {
             return Ok(Some(StepRule::Repeat));
         }
         self.marks.widen(lits)?;
-        if !is_right(
+        if !is_rup_step(
             &self.axioms,
             self.lines.as_slice(),
             &mut self.marks,

@@ -3,8 +3,8 @@
 
 mod checker;
 mod lines;
+mod live;
 mod marks;
-mod standing;
 mod steps;
 
 pub use checker::Checker;

@@ -31,7 +31,7 @@ pub enum StepRule {
     Repeat,
     /// The hints do not derive the clause.
     Step,
-    /// No line of that number stands, or it does not hold the literal of a standing unit clause
+    /// No line of that number stands, or it does not hold the literal of a live unit clause
     /// beside others.
     Retire,
 }

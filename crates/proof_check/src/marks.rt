@@ -10,7 +10,7 @@ use std::marker::Model;
 /// A set of literals. Each literal up to a greatest one has a stamp, and is in the set where its
 /// stamp is the present round: so a new round empties the set.
 ///
-/// Contracts see it as a list of flags, one for each literal by its code.
+/// Contracts see it as a list of literal_set, one for each literal by its code.
 #[derive(Drop)]
 pub struct Marks {
     stamps: Vec<u32>,

@@ -3,7 +3,7 @@ ghost use Rattle.std.specs.Prelude.{◌≡◌, ℕ, ◌+◌, ◌<◌, ◌≤◌,
 ghost use Rattle.std.specs.Option.{option_copied};
 ghost use Rattle.sat_lits.specs.Literals.{negation};
 ghost use Rattle.sat_lits.specs.Clauses.{HasRisingVariables};
-ghost use Rattle.sat_lits.specs.Steps.{named, denied, Refutes, IsRight};
+ghost use Rattle.sat_lits.specs.Steps.{named, negated, Refutes, IsRupStep};
 ghost use Rattle.proof_check.specs.Marks.{marked, HasRoom};
 ghost use Rattle.proof_check.specs.Status.{HasStatus};
 
@@ -22,7 +22,7 @@ pub enum Status {
 }
 
 /// Whether the hints derive the clause of these literals. It takes no memory.
-pub fn is_right(
+pub fn is_rup_step(
     axioms: &[Clause],
     lines: &[Option<Clause>],
     marks: &mut Marks,
@@ -31,19 +31,19 @@ pub fn is_right(
 ) -> bool
     requires room { HasRoom axioms.now lines.now (length marks.old) }
     requires clause_room { All (λ l. l + 1 < length marks.old) lits.now }
-    ensures right { IsTrue result ↔ IsRight axioms.now lines.now lits.now hints.now }
+    ensures right { IsTrue result ↔ IsRupStep axioms.now lines.now lits.now hints.now }
     ensures length { length marks.new ≡ length marks.old }
 {
     marks.clear();
-    deny(marks, lits);
+    insert_negations(marks, lits);
     refutes(axioms, lines, marks, hints)
 }
 
 /// Makes the literals false in an empty set.
-fn deny(marks: &mut Marks, lits: &[Lit])
+fn insert_negations(marks: &mut Marks, lits: &[Lit])
     requires room { All (λ l. l + 1 < length marks.old) lits.now }
     requires empty { (l : ℕ) → marked marks.old l ≡ false }
-    ensures denied { (l : ℕ) → marked marks.new l ≡ denied lits.now l }
+    ensures negated { (l : ℕ) → marked marks.new l ≡ negated lits.now l }
     ensures length { length marks.new ≡ length marks.old }
 {
     for lit in lits {
@@ -55,7 +55,8 @@ fn deny(marks: &mut Marks, lits: &[Lit])
 /// the last one is falsified.
 fn refutes(axioms: &[Clause], lines: &[Option<Clause>], marks: &mut Marks, hints: &[Id]) -> bool
     requires room { HasRoom axioms.now lines.now (length marks.old) }
-    ensures right { IsTrue result ↔ Refutes (named axioms.now lines.now) (marked marks.old) hints.now }
+    ensures right { IsTrue result
+        ↔ Refutes (named axioms.now lines.now) (marked marks.old) hints.now }
     ensures length { length marks.new ≡ length marks.old }
 {
     for (i, hint) in hints.iter().enumerate() {
@@ -99,18 +100,20 @@ fn status_of(marks: &Marks, lits: &[Lit]) -> Status
     Status::Forcing(lit)
 }
 
-/// The first place from `from` on whose literal is not false, or else the number of literals.
+/// The first position from `from` on whose literal is not false, or else the number of literals.
 fn first_open(marks: &Marks, lits: &[Lit], from: usize) -> usize
     requires room { All (λ l. l + 1 < length marks.now) lits.now }
     requires start { from ≤ length lits.now }
     ensures within { result ≤ length lits.now }
     ensures after { from ≤ result }
-    ensures false_before { (k : ℕ) → from ≤ k → k < result → marked marks.now (negation (slice_index lits.now k)) ≡ true }
-    ensures open { result < length lits.now → marked marks.now (negation (slice_index lits.now result)) ≡ false }
+    ensures false_before { (k : ℕ) → from ≤ k → k < result
+        → marked marks.now (negation (slice_index lits.now k)) ≡ true }
+    ensures open { result < length lits.now
+        → marked marks.now (negation (slice_index lits.now result)) ≡ false }
 {
-    for place in from..lits.len() {
-        if !marks.contains(lits[place].negate()) {
-            return place;
+    for position in from..lits.len() {
+        if !marks.contains(lits[position].negate()) {
+            return position;
         }
     }
     lits.len()

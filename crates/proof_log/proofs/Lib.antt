@@ -1,3 +1,3 @@
-pub mod StandingLemmas
+pub mod LiveLemmas
 pub mod SoundLemmas
 pub mod StateLemmas

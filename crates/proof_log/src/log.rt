@@ -1,7 +1,7 @@
 //! Axioms, and the lines derived from them.
 ghost use Rattle.std.specs.Prelude.{◌≡◌, ◌≤◌, ◌++◌, [], length, Some, IfOk, OnOk, OnErr};
 ghost use Rattle.std.specs.Option.{option_map};
-ghost use Rattle.sat_lits.specs.Steps.{numbered, IsRight, HoldsUnit, IsRetirable};
+ghost use Rattle.sat_lits.specs.Steps.{numbered, IsRupStep, HoldsUnit, IsRetirable};
 
 use sat_lits::{Clause, ClauseTable};
 use smv_ast::{Id, List, NoMemory};
@@ -46,7 +46,7 @@ impl Model for Log {
 }
 
 impl Log {
-    ghost use Rattle.proof_log.specs.Logged.{standing, Derives, Retires};
+    ghost use Rattle.proof_log.specs.Logged.{live_lines, Derives, Retires};
     ghost use Rattle.proof_log.specs.IsSound.{IsSound};
 
     /// The log without axioms and lines.
@@ -63,7 +63,8 @@ impl Log {
 
     /// Adds axioms, which get the next numbers. After `NoMemory` the log is unchanged.
     pub fn axioms(&mut self, clauses: &[Clause]) -> Result<(), NoMemory>
-        ensures ok { OnOk result (self.new ≡ record self.old { axioms = self.old.axioms ++ clauses.now }) }
+        ensures ok { OnOk result (self.new
+            ≡ record self.old { axioms = self.old.axioms ++ clauses.now }) }
         ensures err { OnErr result (self.new ≡ self.old) }
     {
         if clauses.len() > u32::MAX as usize - self.axioms.len() {
@@ -77,10 +78,11 @@ impl Log {
     /// Adds a clause that the hints derive, and answers its id. Where the clause stands in the log as
     /// a derived one, its id is answered and nothing is added. After `NoMemory` the log is unchanged.
     pub fn derive(&mut self, clause: &Clause, hints: &[Id]) -> Result<Id, NoMemory>
-        requires right { IsRight self.old.axioms (standing self.old.lines) clause.now hints.now }
+        requires right { IsRupStep self.old.axioms (live_lines self.old.lines) clause.now
+            hints.now }
 
-        // The clause holds no literal of a standing unit clause beside others.
-        requires plain { HoldsUnit (standing self.old.lines) clause.now → ⊥ }
+        // The clause holds no literal of a live_lines unit clause beside others.
+        requires plain { HoldsUnit (live_lines self.old.lines) clause.now → ⊥ }
         ensures ok { IfOk result (Derives self.old clause.now hints.now self.new) }
         ensures err { OnErr result (self.new ≡ self.old) }
     {
@@ -105,8 +107,8 @@ impl Log {
 
     /// Retires the derived line of this number: no later line may use it. It takes no memory.
     pub fn retire(&mut self, id: u32)
-        // The line stands, and holds the literal of a standing unit clause beside others.
-        requires { IsRetirable (standing self.old.lines) id }
+        // The line stands, and holds the literal of a live_lines unit clause beside others.
+        requires { IsRetirable (live_lines self.old.lines) id }
         ensures { Retires self.old id self.new }
     {
         let count = self.lines.len() as u32;

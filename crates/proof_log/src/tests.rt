@@ -1,6 +1,6 @@
 ghost use Rattle.std.specs.Prelude.{◌≡◌, ◌∷◌, [], IfOk, Contains};
 ghost use Rattle.sat_lits.specs.Steps.{HoldsUnit};
-ghost use Rattle.proof_log.specs.Logged.{standing, Derives};
+ghost use Rattle.proof_log.specs.Logged.{live_lines, Derives};
 
 use super::*;
 use sat_lits::{Clause, Lit};
@@ -41,7 +41,7 @@ fn log_of_one(alloc: Global) -> Result<Log, Fail>
 fn weaken(log: &mut Log, clause: &Clause) -> Result<Id, Fail>
     requires axiom { log.old.axioms ≡ (2 ∷ []) ∷ [] }
     requires holds { Contains clause.now 2 }
-    requires plain { HoldsUnit (standing log.old.lines) clause.now → ⊥ }
+    requires plain { HoldsUnit (live_lines log.old.lines) clause.now → ⊥ }
     ensures { IfOk result (Derives log.old clause.now (Id.Axiom 1 ∷ []) log.new) }
 {
     Ok(log.derive(clause, &[Id::Axiom(1)])?)

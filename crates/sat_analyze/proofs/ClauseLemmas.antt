@@ -45,15 +45,15 @@ rising_lits ys own sorted k within =
     let order : get_or ys k 0 ≤ get_or ys (k + 1) 0 = sorted k (k + 1) 0 (omega arith) within in
     omega arith
 
--- one more literal is negated in its place
+-- one more literal is negated in its position
 pub negated_more : (lits xs : List ℕ) (k x d : ℕ) → k < length lits → xs ≡ map negation (take k lits) ++ drop k lits → x ≡ negation (get_or xs k d) → set xs k x ≡ map negation (take (k + 1) lits) ++ drop (k + 1) lits
 negated_more lits xs k x d within is new =
     let here = get_or lits k d in
     let split : xs ≡ map negation (take k lits) ++ here ∷ drop (k + 1) lits = is ∙ ap (λ ls. map negation (take k lits) ++ ls) (drop_more lits k d within) in
-    let front : length (map negation (take k lits)) ≡ k = length-map (take k lits) negation ∙ length-take-le k lits (omega arith) in
-    let old : get_or xs k d ≡ here = ap (λ ls. get_or ls k d) split ∙ get_or_at (map negation (take k lits)) here (drop (k + 1) lits) d k front in
+    let prefix : length (map negation (take k lits)) ≡ k = length-map (take k lits) negation ∙ length-take-le k lits (omega arith) in
+    let old : get_or xs k d ≡ here = ap (λ ls. get_or ls k d) split ∙ get_or_at (map negation (take k lits)) here (drop (k + 1) lits) d k prefix in
     ap (λ ls. set ls k x) split
-    ∙ set_at (map negation (take k lits)) here (drop (k + 1) lits) x k front
+    ∙ set_at (map negation (take k lits)) here (drop (k + 1) lits) x k prefix
     ∙ ap (λ l. map negation (take k lits) ++ l ∷ drop (k + 1) lits) (new ∙ ap negation old)
     ∙ sym (append_assoc (map negation (take k lits)) (negation here ∷ []) (drop (k + 1) lits))
     ∙ ap (λ ls. ls ++ drop (k + 1) lits) (sym (map-append negation (take k lits) (here ∷ [])) ∙ ap (λ ls. map negation ls) (sym (take_more lits k d within)))

@@ -1,5 +1,5 @@
 pub mod ClauseLemmas
-pub mod PlaceLemmas
+pub mod PositionLemmas
 pub mod MarkLemmas
 pub mod BeforeLemmas
 pub mod RefuteLemmas

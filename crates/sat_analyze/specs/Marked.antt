@@ -1,29 +1,30 @@
--- Marks at the places of a trail.
+-- Marks at the positions of a trail.
 use Rattle.std.specs.Prelude.{◌≡◌, ℕ, ◌<◌, ◌≤◌, Bool, true, false, List, length, map, slice_index, slice_index_or, All, Contains, ◌⊎◌}
 use Rattle.sat_arena.specs.declared.trail.Assigned.{Assigned}
 use Rattle.sat_lits.specs.Literals.{variable_of}
 
--- the place is marked
+-- the position is marked
 abbrev pub IsMarked : List Bool → ℕ → Type 0
-IsMarked flags place = slice_index_or flags place false ≡ true
+IsMarked seen position = slice_index_or seen position false ≡ true
 
--- the table, by variables, gives each literal a place below this count
-abbrev pub HavePlaces : List ℕ → ℕ → List ℕ → Type 0
-HavePlaces places count lits = All (λ l. (variable_of l < length places) × (slice_index places (variable_of l) < count)) lits
+-- the table, by variables, gives each literal a position below this count
+abbrev pub ArePositioned : List ℕ → ℕ → List ℕ → Type 0
+ArePositioned positions count lits = All
+    (λ l. (variable_of l < length positions) × (slice_index positions (variable_of l) < count)) lits
 
--- the place is that of one of the literals
-pub record IsPlaceOf (places : List ℕ) (lits : List ℕ) (place : ℕ) : Type 0 where
+-- the position is that of one of the literals
+pub record IsPositionOf (positions : List ℕ) (lits : List ℕ) (position : ℕ) : Type 0 where
   pub literal : ℕ
   pub holds : Contains lits literal
-  pub there : slice_index places (variable_of literal) ≡ place
+  pub there : slice_index positions (variable_of literal) ≡ position
 
--- the literal's variable stands at a marked place, or at one of level 0
+-- the literal's variable stands at a marked position, or at one of level 0
 abbrev pub IsCovered : List Assigned → List ℕ → List Bool → ℕ → Type 0
-IsCovered entries places flags literal =
-    let place = slice_index places (variable_of literal) in IsMarked flags place ⊎ (slice_index (map (λ e. e.level) entries) place ≡ 0)
+IsCovered entries positions seen literal =
+    let position = slice_index positions (variable_of literal) in IsMarked seen position ⊎ (slice_index (map (λ e. e.level) entries) position ≡ 0)
 
--- the lowest marked place from `start` on, and no place where there is none
-pub record IsLowest (flags : List Bool) (start lowest : ℕ) : Type 0 where
-  pub least : (place : ℕ) → start ≤ place → IsMarked flags place → lowest ≤ place
-  pub within : lowest ≤ length flags
-  pub reached : lowest < length flags → IsMarked flags lowest × (start ≤ lowest)
+-- the lowest marked position from `start` on, and no position where there is none
+pub record IsLowest (seen : List Bool) (start lowest : ℕ) : Type 0 where
+  pub least : (position : ℕ) → start ≤ position → IsMarked seen position → lowest ≤ position
+  pub within : lowest ≤ length seen
+  pub reached : lowest < length seen → IsMarked seen lowest × (start ≤ lowest)

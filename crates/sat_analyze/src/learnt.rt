@@ -1,10 +1,10 @@
 //! What conflict analysis derives.
 ghost use Rattle.std.specs.Prelude.{◌≡◌, ◌<◌, [], true, slice_index_or, IfOk};
 ghost use Rattle.sat_lits.specs.Literals.{negation};
-ghost use Rattle.sat_arena.specs.Trails.{told};
-ghost use Rattle.sat_arena.specs.Held.{clauses_of};
+ghost use Rattle.sat_arena.specs.Trails.{true_in};
+ghost use Rattle.sat_arena.specs.ArenaState.{clauses_of};
 ghost use Rattle.sat_arena.specs.Deduced.{IsConflict};
-ghost use Rattle.sat_arena.specs.Justified.{newest, IsJustified, IsDecision};
+ghost use Rattle.sat_arena.specs.Justified.{current_level, IsJustified, IsDecision};
 ghost use Rattle.sat_analyze.specs.Learnt.{IsNewlyFalse, IsLearnt, IsFinal, IsLeft};
 ghost use Rattle.sat_analyze.specs.Walked.{HaveOwnVariables};
 
@@ -21,17 +21,19 @@ pub struct Learnt {
     pub clause: Clause,
     /// The clauses through which unit propagation derives it, in the order in which it comes to them.
     pub hints: List<Id>,
-    /// The greatest level of the clause's other literals: all but the one of the newest level, or but
+    /// The greatest level of the clause's other literals: all but the one of the current_level level, or but
     /// the negation of the literal that `final_clause` was asked for. It is 0 where there are none.
     pub level: u32,
 }
 
-/// The clause to be learnt from the falsified one at the place: it is falsified too, and has one literal
-/// of the newest level. Where that level is 0, it is the empty clause.
+/// The clause to be learnt from the falsified one at the position: it is falsified too, and has one literal
+/// of the current_level level. Where that level is 0, it is the empty clause.
 pub fn learn(alloc: Global, arena: &Arena, trail: &Trail, conflict: u32) -> Result<Learnt, NoMemory>
     requires justified { IsJustified (clauses_of arena.now.stored) trail.now.entries }
     requires conflict { IsConflict (clauses_of arena.now.stored) trail.now.entries conflict }
-    requires newest { 0 < newest trail.now.entries → IsNewlyFalse trail.now.entries (slice_index_or (clauses_of arena.now.stored) conflict []) }
+    requires current_level { 0 < current_level trail.now.entries
+        → IsNewlyFalse trail.now.entries
+        (slice_index_or (clauses_of arena.now.stored) conflict []) }
     ensures { IfOk result (IsLearnt arena.now.stored trail.now.entries) }
 {
     let entries = trail.entries();
@@ -39,7 +41,7 @@ pub fn learn(alloc: Global, arena: &Arena, trail: &Trail, conflict: u32) -> Resu
     walk.meet(arena, conflict)?;
     walk.keep_unique_point(arena, entries)?;
     let from = walk.marks.lowest;
-    walk.keep_rest(arena, entries, from, Keeping::Needed)?;
+    walk.keep_marked(arena, entries, from, Keeping::Needed)?;
     Ok(learnt_by(walk))
 }
 
@@ -52,17 +54,17 @@ pub fn final_clause(
     lit: Lit,
 ) -> Result<Learnt, NoMemory>
     requires justified { IsJustified (clauses_of arena.now.stored) trail.now.entries }
-    requires false_there { told trail.now.entries (negation lit) ≡ true }
+    requires false_there { true_in trail.now.entries (negation lit) ≡ true }
     requires undecided { IsDecision trail.now.entries (negation lit) → ⊥ }
     ensures { IfOk result (IsFinal arena.now.stored trail.now.entries lit) }
 {
     let entries = trail.entries();
     let mut walk = Walk::new(alloc, trail)?;
-    let from = walk.marks.place_of(lit);
+    let from = walk.marks.position_of(lit);
     let reason = entries[from].reason.unwrap();
     walk.meet(arena, reason)?;
     walk.keep_lit(lit)?;
-    walk.keep_rest(arena, entries, from, Keeping::Decisions)?;
+    walk.keep_marked(arena, entries, from, Keeping::Decisions)?;
     Ok(learnt_by(walk))
 }
 

@@ -5,7 +5,7 @@
 mod clause;
 mod learnt;
 mod marks;
-mod places;
+mod positions;
 mod walk;
 
 pub use learnt::{Learnt, final_clause, learn};

@@ -1,73 +1,76 @@
-//! Marks at the places of a trail.
+//! Marks at the positions of a trail.
 ghost use Rattle.std.specs.Prelude.{◌≡◌, ℕ, ◌<◌, ◌^◌, ◌↔◌, ◌⊎◌, true, All, IsTrue, length, slice_index, slice_set};
 ghost use Rattle.sat_lits.specs.Literals.{variable_of};
-ghost use Rattle.sat_analyze.specs.Marked.{IsMarked, HavePlaces, IsPlaceOf, IsCovered, IsLowest};
+ghost use Rattle.sat_analyze.specs.Marked.{IsMarked, ArePositioned, IsPositionOf, IsCovered, IsLowest};
 
 use sat_arena::Assigned;
 use sat_lits::Lit;
 
-/// Which entries of a trail are marked, by their places.
+/// Which entries of a trail are marked, by their positions.
 #[derive(Drop)]
 pub struct Marks {
-    /// The place of each assigned variable's literal.
-    pub places: Vec<u32>,
-    /// Whether the place is marked.
-    pub flags: Vec<bool>,
-    /// The place from which on the lowest mark is kept in sight.
+    /// The position of each assigned variable's literal.
+    pub positions: Vec<u32>,
+    /// Whether the position is marked.
+    pub seen: Vec<bool>,
+    /// The position from which on the lowest mark is kept in sight.
     pub start: usize,
-    /// The lowest marked place from there on, or the number of places where there is none.
+    /// The lowest marked position from there on, or the number of positions where there is none.
     pub lowest: usize,
 }
 
 impl Marks {
     /// Marks where the variables of the literals stand.
     pub fn mark(&mut self, lits: &[Lit])
-        requires placed { HavePlaces self.old.places.items (length self.old.flags.items) lits.now }
-        requires lowest { IsLowest self.old.flags.items self.old.start self.old.lowest }
-        ensures exact { (i : ℕ) → IsMarked self.new.flags.items i ↔ (IsMarked self.old.flags.items i ⊎ IsPlaceOf self.old.places.items lits.now i) }
-        ensures lowest { IsLowest self.new.flags.items self.old.start self.new.lowest }
-        ensures sized { length self.new.flags.items ≡ length self.old.flags.items }
-        ensures places { self.new.places ≡ self.old.places }
+        requires positioned { ArePositioned self.old.positions.items (length self.old.seen.items)
+            lits.now }
+        requires lowest { IsLowest self.old.seen.items self.old.start self.old.lowest }
+        ensures exact { (i : ℕ) → IsMarked self.new.seen.items i
+            ↔ (IsMarked self.old.seen.items i ⊎ IsPositionOf self.old.positions.items lits.now i) }
+        ensures lowest { IsLowest self.new.seen.items self.old.start self.new.lowest }
+        ensures sized { length self.new.seen.items ≡ length self.old.seen.items }
+        ensures positions { self.new.positions ≡ self.old.positions }
         ensures start { self.new.start ≡ self.old.start }
     {
         for lit in lits {
-            let place = self.place_of(*lit);
-            self.mark_place(place);
+            let position = self.position_of(*lit);
+            self.mark_position(position);
         }
     }
 
     /// Where the literal's variable stands on the trail.
-    pub fn place_of(&self, lit: Lit) -> usize
-        requires { variable_of lit < length self.now.places.items }
-        ensures place { result ≡ slice_index self.now.places.items (variable_of lit) }
+    pub fn position_of(&self, lit: Lit) -> usize
+        requires { variable_of lit < length self.now.positions.items }
+        ensures position { result ≡ slice_index self.now.positions.items (variable_of lit) }
         ensures small { result < 2 ^ 32 }
     {
-        self.places[lit.var() as usize] as usize
+        self.positions[lit.var() as usize] as usize
     }
 
-    fn mark_place(&mut self, place: usize)
-        requires within { place < length self.old.flags.items }
-        requires lowest { IsLowest self.old.flags.items self.old.start self.old.lowest }
-        ensures flags { self.new.flags.items ≡ slice_set self.old.flags.items place true }
-        ensures lowest { IsLowest self.new.flags.items self.old.start self.new.lowest }
-        ensures places { self.new.places ≡ self.old.places }
+    fn mark_position(&mut self, position: usize)
+        requires within { position < length self.old.seen.items }
+        requires lowest { IsLowest self.old.seen.items self.old.start self.old.lowest }
+        ensures seen { self.new.seen.items ≡ slice_set self.old.seen.items position true }
+        ensures lowest { IsLowest self.new.seen.items self.old.start self.new.lowest }
+        ensures positions { self.new.positions ≡ self.old.positions }
         ensures start { self.new.start ≡ self.old.start }
     {
-        self.flags[place] = true;
-        if self.start <= place {
-            self.lowest = self.lowest.min(place);
+        self.seen[position] = true;
+        if self.start <= position {
+            self.lowest = self.lowest.min(position);
         }
     }
 
-    /// Whether each literal stands at a marked place or at level 0.
+    /// Whether each literal stands at a marked position or at level 0.
     pub fn cover(&self, entries: &[Assigned], lits: &[Lit]) -> bool
-        requires sized { length self.now.flags.items ≡ length entries.now }
-        requires placed { HavePlaces self.now.places.items (length entries.now) lits.now }
-        ensures { IsTrue result ↔ All (IsCovered entries.now self.now.places.items self.now.flags.items) lits.now }
+        requires sized { length self.now.seen.items ≡ length entries.now }
+        requires positioned { ArePositioned self.now.positions.items (length entries.now) lits.now }
+        ensures { IsTrue result ↔ All
+            (IsCovered entries.now self.now.positions.items self.now.seen.items) lits.now }
     {
         for lit in lits {
-            let place = self.place_of(*lit);
-            if !self.flags[place] && entries[place].level > 0 {
+            let position = self.position_of(*lit);
+            if !self.seen[position] && entries[position].level > 0 {
                 return false;
             }
         }

@@ -1,13 +1,13 @@
 //! The walk back over a trail: each marked literal is resolved with its reason, or kept.
 ghost use Rattle.std.specs.Prelude.{◌≡◌, ℕ, ◌+◌, ◌<◌, ◌≤◌, None, Some, true, [], length, slice_index_or, IfOk, IfSome, IfNone, OnOk};
-ghost use Rattle.sat_arena.specs.Held.{clauses_of};
-ghost use Rattle.sat_arena.specs.Justified.{IsJustified, StandsAt};
+ghost use Rattle.sat_arena.specs.ArenaState.{clauses_of};
+ghost use Rattle.sat_arena.specs.Justified.{IsJustified, IsEntryAt};
 ghost use Rattle.sat_analyze.specs.declared.walk.Keeping.TheVariants.{Decisions};
-ghost use Rattle.sat_analyze.specs.Marked.{IsMarked, HavePlaces, IsLowest};
+ghost use Rattle.sat_analyze.specs.Marked.{IsMarked, ArePositioned, IsLowest};
 ghost use Rattle.sat_analyze.specs.Walked.{IsStart, IsFresh, IsWalk, Meets, Keeps, KeepsLit, Resolves, KeepsPoint, Steps, KeepsMore};
 
 use crate::marks::Marks;
-use crate::places::{places_of, start_of_newest};
+use crate::positions::{positions_of, start_of_current_level};
 use sat_arena::{Arena, Assigned, Trail};
 use sat_lits::Lit;
 use smv_ast::{Id, NoMemory};
@@ -22,7 +22,7 @@ pub struct Walk {
     pub kept: Vec<Lit>,
     /// The clauses that were met, the last of propagation first.
     pub hints: Vec<Id>,
-    /// The greatest level of a literal that `keep_rest` kept.
+    /// The greatest level of a literal that `keep_marked` kept.
     pub level: u32,
 }
 
@@ -36,19 +36,19 @@ pub enum Keeping {
 }
 
 impl Walk {
-    /// The walk with nothing marked. It keeps the lowest mark of the newest level in sight, where that
+    /// The walk with nothing marked. It keeps the lowest mark of the current_level level in sight, where that
     /// level is above 0.
     pub fn new(alloc: Global, trail: &Trail) -> Result<Walk, NoMemory>
         ensures { IfOk result (IsFresh trail.now.entries) }
     {
         let entries = trail.entries();
-        let mut flags = Vec::new(alloc);
-        flags.resize(entries.len(), false)?;
+        let mut seen = Vec::new(alloc);
+        seen.resize(entries.len(), false)?;
         Ok(Walk {
             marks: Marks {
-                places: places_of(alloc, trail)?,
-                flags,
-                start: start_of_newest(entries),
+                positions: positions_of(alloc, trail)?,
+                seen,
+                start: start_of_current_level(entries),
                 lowest: entries.len(),
             },
             kept: Vec::new(alloc),
@@ -57,11 +57,14 @@ impl Walk {
         })
     }
 
-    /// Takes in the clause at the place: marks its literals and notes it as a hint.
+    /// Takes in the clause at the position: marks its literals and notes it as a hint.
     pub fn meet(&mut self, arena: &Arena, at: u32) -> Result<(), NoMemory>
         requires within { at < length arena.now.stored }
-        requires placed { HavePlaces self.old.marks.places.items (length self.old.marks.flags.items) (slice_index_or (clauses_of arena.now.stored) at []) }
-        requires lowest { IsLowest self.old.marks.flags.items self.old.marks.start self.old.marks.lowest }
+        requires positioned { ArePositioned self.old.marks.positions.items
+            (length self.old.marks.seen.items)
+            (slice_index_or (clauses_of arena.now.stored) at []) }
+        requires lowest { IsLowest self.old.marks.seen.items self.old.marks.start
+            self.old.marks.lowest }
         ensures { OnOk result (Meets arena.now.stored at self.old self.new) }
     {
         self.marks.mark(arena.lits(at));
@@ -69,7 +72,7 @@ impl Walk {
         Ok(())
     }
 
-    /// Resolves the literals of the newest level with their reasons, down to the one through which all
+    /// Resolves the literals of the current_level level with their reasons, down to the one through which all
     /// ways to the conflict lead, and keeps that. At level 0 it does nothing.
     pub fn keep_unique_point(&mut self, arena: &Arena, entries: &[Assigned]) -> Result<(), NoMemory>
         requires justified { IsJustified (clauses_of arena.now.stored) entries.now }
@@ -78,33 +81,39 @@ impl Walk {
         requires none { self.old.kept.items ≡ [] }
         ensures { OnOk result (KeepsPoint arena.now.stored entries.now self.old self.new) }
     {
-        let mut place = entries.len();
-        while self.marks.lowest + 1 < place {
-            place -= 1;
-            self.resolve(arena, entries, place)?;
+        let mut position = entries.len();
+        while self.marks.lowest + 1 < position {
+            position -= 1;
+            self.resolve(arena, entries, position)?;
         }
-        if self.marks.lowest < place {
+        if self.marks.lowest < position {
             self.keep_lit(entries[self.marks.lowest].lit)?;
         }
         Ok(())
     }
 
-    /// Resolves the literal at the place, where it is marked.
-    fn resolve(&mut self, arena: &Arena, entries: &[Assigned], place: usize) -> Result<(), NoMemory>
+    /// Resolves the literal at the position, where it is marked.
+    fn resolve(
+        &mut self,
+        arena: &Arena,
+        entries: &[Assigned],
+        position: usize,
+    ) -> Result<(), NoMemory>
         requires justified { IsJustified (clauses_of arena.now.stored) entries.now }
-        requires walk { IsWalk arena.now.stored entries.now (place + 1) self.old }
-        requires forced { (entry : Assigned) → StandsAt entries.now place entry → entry.reason ≡ None → ⊥ }
-        ensures { OnOk result (Resolves arena.now.stored entries.now place self.old self.new) }
+        requires walk { IsWalk arena.now.stored entries.now (position + 1) self.old }
+        requires forced { (entry : Assigned) → IsEntryAt entries.now position entry → entry.reason
+            ≡ None → ⊥ }
+        ensures { OnOk result (Resolves arena.now.stored entries.now position self.old self.new) }
     {
-        if !self.marks.flags[place] {
+        if !self.marks.seen[position] {
             return Ok(());
         }
-        let reason = entries[place].reason.unwrap();
+        let reason = entries[position].reason.unwrap();
         self.meet(arena, reason)
     }
 
-    /// Resolves or keeps each marked literal before the place.
-    pub fn keep_rest(
+    /// Resolves or keeps each marked literal before the position.
+    pub fn keep_marked(
         &mut self,
         arena: &Arena,
         entries: &[Assigned],
@@ -115,32 +124,34 @@ impl Walk {
         requires walk { IsWalk arena.now.stored entries.now from self.old }
         requires level { self.old.level ≡ 0 }
         ensures walk { OnOk result (IsWalk arena.now.stored entries.now 0 self.new) }
-        ensures more { OnOk result (KeepsMore entries.now keeping from self.old.kept.items self.new) }
+        ensures more { OnOk result
+            (KeepsMore entries.now keeping from self.old.kept.items self.new) }
         ensures start { OnOk result (self.new.marks.start ≡ self.old.marks.start) }
         ensures apart { OnOk result (from ≤ self.old.marks.lowest → from ≤ self.new.marks.lowest) }
     {
-        for place in (0..from).rev() {
-            self.step(arena, entries, place, keeping)?;
+        for position in (0..from).rev() {
+            self.step(arena, entries, position, keeping)?;
         }
         Ok(())
     }
 
-    /// Resolves or keeps the literal at the place, where it is marked.
+    /// Resolves or keeps the literal at the position, where it is marked.
     fn step(
         &mut self,
         arena: &Arena,
         entries: &[Assigned],
-        place: usize,
+        position: usize,
         keeping: Keeping,
     ) -> Result<(), NoMemory>
         requires justified { IsJustified (clauses_of arena.now.stored) entries.now }
-        requires walk { IsWalk arena.now.stored entries.now (place + 1) self.old }
-        ensures { OnOk result (Steps arena.now.stored entries.now place keeping self.old self.new) }
+        requires walk { IsWalk arena.now.stored entries.now (position + 1) self.old }
+        ensures { OnOk result (Steps arena.now.stored entries.now position keeping self.old
+            self.new) }
     {
-        if !self.marks.flags[place] {
+        if !self.marks.seen[position] {
             return Ok(());
         }
-        let entry = &entries[place];
+        let entry = &entries[position];
         match self.followed_reason(arena, entries, entry, keeping) {
             Some(reason) => self.meet(arena, reason),
             None => self.keep(entry),
@@ -156,8 +167,10 @@ impl Walk {
         keeping: Keeping,
     ) -> Option<u32>
         requires within { IfSome entry.now.reason (λ reason. reason < length arena.now.stored) }
-        requires placed { IfSome entry.now.reason (λ reason. HavePlaces self.now.marks.places.items (length entries.now) (slice_index_or (clauses_of arena.now.stored) reason [])) }
-        requires sized { length self.now.marks.flags.items ≡ length entries.now }
+        requires positioned { IfSome entry.now.reason
+            (λ reason. ArePositioned self.now.marks.positions.items (length entries.now)
+            (slice_index_or (clauses_of arena.now.stored) reason [])) }
+        requires sized { length self.now.marks.seen.items ≡ length entries.now }
         ensures some { IfSome result (λ reason. entry.now.reason ≡ Some reason) }
         ensures decided { IfNone result (keeping ≡ Decisions → entry.now.reason ≡ None) }
         ensures root { IfNone result (entry.now.level ≡ 0 → entry.now.reason ≡ None) }

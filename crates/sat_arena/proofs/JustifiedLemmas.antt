@@ -7,15 +7,15 @@ use Rattle.std.proofs.lemmas.List.{length_push, length-append, get_or_append_lef
 use Rattle.std.proofs.lemmas.List.Elements.{All-contains, All-head, All-tail, All-cons, All-weaker, Contains-append_left}
 use Rattle.sat_lits.specs.Steps.{Forces}
 use Rattle.sat_arena.specs.declared.trail.Assigned.{Assigned}
-use Rattle.sat_arena.specs.Trails.{told, up_to}
+use Rattle.sat_arena.specs.Trails.{true_in, up_to}
 use Rattle.sat_arena.specs.Deduced.{Deduces, nothing, one_more}
-use Rattle.sat_arena.specs.Justified.{StandsAt, IsReason, BeginsLevel, IsJustified}
+use Rattle.sat_arena.specs.Justified.{IsEntryAt, IsReason, BeginsLevel, IsJustified}
 use Rattle.sat_arena.proofs.TrailLemmas.{tail_pairs, head_pairs}
 
--- ---- Places on a longer trail
+-- ---- IgnoringSpans on a longer trail
 
 -- an entry of a longer trail is one of before, or the new one
-pub in_push : (entries : List Assigned) (new : Assigned) (i : ℕ) (entry : Assigned) → StandsAt (entries ++ new ∷ []) i entry → (StandsAt entries i entry × (take i (entries ++ new ∷ []) ≡ take i entries)) ⊎ ((entry ≡ new) × (take i (entries ++ new ∷ []) ≡ entries))
+pub in_push : (entries : List Assigned) (new : Assigned) (i : ℕ) (entry : Assigned) → IsEntryAt (entries ++ new ∷ []) i entry → (IsEntryAt entries i entry × (take i (entries ++ new ∷ []) ≡ take i entries)) ⊎ ((entry ≡ new) × (take i (entries ++ new ∷ []) ≡ entries))
 in_push entries new i entry at =
     let long : length (entries ++ new ∷ []) ≡ length entries + 1 = length_push entries new in
     elim (cases_eq i (length entries)) [
@@ -25,8 +25,8 @@ in_push entries new i entry at =
     ]
 
 -- an entry of the first ones
-pub in_front : (entries : List Assigned) (n i : ℕ) (entry : Assigned) → StandsAt (take n entries) i entry → StandsAt entries i entry × (take i (take n entries) ≡ take i entries)
-in_front entries n i entry at =
+pub in_prefix : (entries : List Assigned) (n i : ℕ) (entry : Assigned) → IsEntryAt (take n entries) i entry → IsEntryAt entries i entry × (take i (take n entries) ≡ take i entries)
+in_prefix entries n i entry at =
     let short : length (take n entries) ≡ min n (length entries) = length-take n entries in
     ((omega (arith, at.0), sym (get_or-take n entries i entry (omega (arith, at.0))) ∙ at.1), take-take i n entries (omega (arith, at.0)))
 
@@ -36,13 +36,13 @@ pub IsReason-from_forces : (known : ℕ → Bool) (clause : List ℕ) (literal :
 IsReason-from_forces known clause literal forces = record { holds = forces.holds; others = forces.others }
 
 pub IsJustified-push : (clauses : List (List ℕ)) (entries : List Assigned) (new : Assigned) → IsJustified clauses entries
-    → ((place : ℕ) → new.reason ≡ Some place → (place < length clauses) × IsReason (told entries) (get_or clauses place []) new.lit)
+    → ((position : ℕ) → new.reason ≡ Some position → (position < length clauses) × IsReason (true_in entries) (get_or clauses position []) new.lit)
     → ((new.reason ≡ None) ↔ BeginsLevel entries new) → IsJustified clauses (entries ++ new ∷ [])
 IsJustified-push clauses entries new justified why begins = record {
-  reasons = λ i place entry at is. elim (in_push entries new i entry at) [
-    | inl old ↦ subst (λ (es : List Assigned). (place < length clauses) × IsReason (told es) (get_or clauses place []) entry.lit) (sym old.1) (justified.reasons i place entry old.0 is)
-    | inr last ↦ subst (λ (es : List Assigned). (place < length clauses) × IsReason (told es) (get_or clauses place []) entry.lit) (sym last.1)
-        (subst (λ (e : Assigned). (place < length clauses) × IsReason (told entries) (get_or clauses place []) e.lit) (sym last.0) (why place (sym (ap (λ e. e.reason) last.0) ∙ is)))
+  reasons = λ i position entry at is. elim (in_push entries new i entry at) [
+    | inl old ↦ subst (λ (es : List Assigned). (position < length clauses) × IsReason (true_in es) (get_or clauses position []) entry.lit) (sym old.1) (justified.reasons i position entry old.0 is)
+    | inr last ↦ subst (λ (es : List Assigned). (position < length clauses) × IsReason (true_in es) (get_or clauses position []) entry.lit) (sym last.1)
+        (subst (λ (e : Assigned). (position < length clauses) × IsReason (true_in entries) (get_or clauses position []) e.lit) (sym last.0) (why position (sym (ap (λ e. e.reason) last.0) ∙ is)))
   ];
   decisions = λ i entry at. elim (in_push entries new i entry at) [
     | inl old ↦ subst (λ (es : List Assigned). (entry.reason ≡ None) ↔ BeginsLevel es entry) (sym old.1) (justified.decisions i entry old.0)
@@ -53,7 +53,7 @@ IsJustified-push clauses entries new justified why begins = record {
 
 pub IsJustified-nil : (clauses : List (List ℕ)) → IsJustified clauses []
 IsJustified-nil clauses = record {
-  reasons = λ i place entry at is. absurd (omega (arith, at.0));
+  reasons = λ i position entry at is. absurd (omega (arith, at.0));
   decisions = λ i entry at. absurd (omega (arith, at.0));
 }
 
@@ -61,15 +61,15 @@ IsJustified-nil clauses = record {
 pub IsJustified-decided : (clauses : List (List ℕ)) (entries : List Assigned) (new : Assigned) → IsJustified clauses entries → new.reason ≡ None → 0 < new.level → All (λ e. e.level < new.level) entries → IsJustified clauses (entries ++ new ∷ [])
 IsJustified-decided clauses entries new justified none above later =
     IsJustified-push clauses entries new justified
-    (λ place is. absurd (let e : None ≡ Some place = sym none ∙ is in cc))
+    (λ position is. absurd (let e : None ≡ Some position = sym none ∙ is in cc))
     (λ _. (above, later), λ _. none)
 
 -- a literal that a clause forces, at level 0 or at a level that was begun
-pub IsJustified-forced : (clauses : List (List ℕ)) (entries : List Assigned) (new : Assigned) (place : ℕ) → IsJustified clauses entries → new.reason ≡ Some place → place < length clauses → IsReason (told entries) (get_or clauses place []) new.lit → (BeginsLevel entries new → ⊥) → IsJustified clauses (entries ++ new ∷ [])
-IsJustified-forced clauses entries new place justified some within why continues =
+pub IsJustified-forced : (clauses : List (List ℕ)) (entries : List Assigned) (new : Assigned) (position : ℕ) → IsJustified clauses entries → new.reason ≡ Some position → position < length clauses → IsReason (true_in entries) (get_or clauses position []) new.lit → (BeginsLevel entries new → ⊥) → IsJustified clauses (entries ++ new ∷ [])
+IsJustified-forced clauses entries new position justified some within why continues =
     IsJustified-push clauses entries new justified
-    (λ other is. subst (λ (n : ℕ). (n < length clauses) × IsReason (told entries) (get_or clauses n []) new.lit) (let e : Some place ≡ Some other = sym some ∙ is in cc) (within, why))
-    (λ none. absurd (let e : None ≡ Some place = sym none ∙ some in cc), λ begins. absurd (continues begins))
+    (λ other is. subst (λ (n : ℕ). (n < length clauses) × IsReason (true_in entries) (get_or clauses n []) new.lit) (let e : Some position ≡ Some other = sym some ∙ is in cc) (within, why))
+    (λ none. absurd (let e : None ≡ Some position = sym none ∙ some in cc), λ begins. absurd (continues begins))
 
 -- an entry of the level, which stands there already where it is above 0
 abbrev pub HasBegun : List Assigned → ℕ → Type 0
@@ -89,20 +89,20 @@ not_first entries new level at begun begins =
 -- what propagation leads to
 pub IsJustified-deduced : (clauses : List (List ℕ)) (level : ℕ) (before after : List Assigned) → Deduces clauses level before after → HasBegun before level → IsJustified clauses before → IsJustified clauses after × HasBegun after level
 IsJustified-deduced clauses level before after nothing begun justified = (justified, begun)
-IsJustified-deduced clauses level before after (one_more entries new place deduced at reason within forces) begun justified =
+IsJustified-deduced clauses level before after (one_more entries new position deduced at reason within forces) begun justified =
     let old = IsJustified-deduced clauses level before entries deduced begun justified in (
-      IsJustified-forced clauses entries new place old.0 reason within (IsReason-from_forces (told entries) (get_or clauses place []) new.lit forces) (not_first entries new level at old.1),
+      IsJustified-forced clauses entries new position old.0 reason within (IsReason-from_forces (true_in entries) (get_or clauses position []) new.lit forces) (not_first entries new level at old.1),
       HasBegun-push entries new level old.1,
     )
 
 -- ---- Fewer entries, more clauses
 
-pub IsJustified-front : (clauses : List (List ℕ)) (entries : List Assigned) (n : ℕ) → IsJustified clauses entries → IsJustified clauses (take n entries)
-IsJustified-front clauses entries n justified = record {
-  reasons = λ i place entry at is. let front = in_front entries n i entry at in
-      subst (λ (es : List Assigned). (place < length clauses) × IsReason (told es) (get_or clauses place []) entry.lit) (sym front.1) (justified.reasons i place entry front.0 is);
-  decisions = λ i entry at. let front = in_front entries n i entry at in
-      subst (λ (es : List Assigned). (entry.reason ≡ None) ↔ BeginsLevel es entry) (sym front.1) (justified.decisions i entry front.0);
+pub IsJustified-prefix : (clauses : List (List ℕ)) (entries : List Assigned) (n : ℕ) → IsJustified clauses entries → IsJustified clauses (take n entries)
+IsJustified-prefix clauses entries n justified = record {
+  reasons = λ i position entry at is. let prefix = in_prefix entries n i entry at in
+      subst (λ (es : List Assigned). (position < length clauses) × IsReason (true_in es) (get_or clauses position []) entry.lit) (sym prefix.1) (justified.reasons i position entry prefix.0 is);
+  decisions = λ i entry at. let prefix = in_prefix entries n i entry at in
+      subst (λ (es : List Assigned). (entry.reason ≡ None) ↔ BeginsLevel es entry) (sym prefix.1) (justified.decisions i entry prefix.0);
 }
 
 up_to-none : (level : ℕ) (entries : List Assigned) → All (λ e. level < e.level) entries → up_to level entries ≡ []
@@ -111,12 +111,12 @@ up_to-none level (e ∷ es) above =
     ap (λ b. cond b (e ∷ up_to level es) (up_to level es)) (lt-leb e.level level (All-head (λ (f : Assigned). level < f.level) e es above))
     ∙ up_to-none level es (All-tail (λ (f : Assigned). level < f.level) e es above)
 
--- the entries up to a level stand at the front
-pub up_to-is_front : (level : ℕ) (entries : List Assigned) → AllPairs (λ e f. e.level ≤ f.level) entries → (n : ℕ) × (up_to level entries ≡ take n entries)
-up_to-is_front level [] rising = (0, refl)
-up_to-is_front level (e ∷ es) rising = elim (cases_lt level e.level) [
-  | inr low ↦ (let rest = up_to-is_front level es (tail_pairs (λ e f. e.level ≤ f.level) e es rising) in
-      (suc rest.0, ap (λ b. cond b (e ∷ up_to level es) (up_to level es)) (le-leb e.level level low) ∙ ap (λ xs. e ∷ xs) rest.1))
+-- the entries up to a level stand at the prefix
+pub up_to-is_prefix : (level : ℕ) (entries : List Assigned) → AllPairs (λ e f. e.level ≤ f.level) entries → (n : ℕ) × (up_to level entries ≡ take n entries)
+up_to-is_prefix level [] rising = (0, refl)
+up_to-is_prefix level (e ∷ es) rising = elim (cases_lt level e.level) [
+  | inr low ↦ (let suffix = up_to-is_prefix level es (tail_pairs (λ e f. e.level ≤ f.level) e es rising) in
+      (suc suffix.0, ap (λ b. cond b (e ∷ up_to level es) (up_to level es)) (le-leb e.level level low) ∙ ap (λ xs. e ∷ xs) suffix.1))
   | inl high ↦ (
     0,
     up_to-none level (e ∷ es) (All-cons (λ (f : Assigned). level < f.level) e es high
@@ -126,14 +126,14 @@ up_to-is_front level (e ∷ es) rising = elim (cases_lt level e.level) [
 
 pub IsJustified-back : (clauses : List (List ℕ)) (entries : List Assigned) (level : ℕ) → AllPairs (λ e f. e.level ≤ f.level) entries → IsJustified clauses entries → IsJustified clauses (up_to level entries)
 IsJustified-back clauses entries level rising justified =
-    let front = up_to-is_front level entries rising in
-    subst (IsJustified clauses) (sym front.1) (IsJustified-front clauses entries front.0 justified)
+    let prefix = up_to-is_prefix level entries rising in
+    subst (IsJustified clauses) (sym prefix.1) (IsJustified-prefix clauses entries prefix.0 justified)
 
 pub IsJustified-add : (clauses more : List (List ℕ)) (entries : List Assigned) → IsJustified clauses entries → IsJustified (clauses ++ more) entries
 IsJustified-add clauses more entries justified = record {
-  reasons = λ i place entry at is.
-      let why = justified.reasons i place entry at is in
+  reasons = λ i position entry at is.
+      let why = justified.reasons i position entry at is in
       let long : length (clauses ++ more) ≡ length clauses + length more = length-append clauses more in
-      (omega (arith, why.0), subst (λ (clause : List ℕ). IsReason (told (take i entries)) clause entry.lit) (sym (get_or_append_left clauses more [] place why.0)) why.1);
+      (omega (arith, why.0), subst (λ (clause : List ℕ). IsReason (true_in (take i entries)) clause entry.lit) (sym (get_or_append_left clauses more [] position why.0)) why.1);
   decisions = justified.decisions;
 }

@@ -2,6 +2,16 @@ pub mod TrailLemmas
 pub mod LevelLemmas
 pub mod SettledLemmas
 pub mod DeducedLemmas
-pub mod ReclaimLemmas
 pub mod NewnessLemmas
 pub mod JustifiedLemmas
+pub mod LinkLemmas
+pub mod LengthLemmas
+pub mod GuardedLemmas
+pub mod WatchLemmas
+pub mod VisitLemmas
+pub mod ArenaLemmas
+pub mod LevelLaws
+pub mod TrueInLemmas
+pub mod PropagatorLemmas
+pub mod LatestLemmas
+pub mod MoveLemmas

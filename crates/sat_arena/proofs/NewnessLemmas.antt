@@ -7,7 +7,7 @@ use Rattle.std.proofs.lemmas.List.Elements.{All-contains}
 use Rattle.std.proofs.lemmas.List.Folds.{Any-from_list_any}
 use Rattle.sat_lits.specs.Literals.{negation}
 use Rattle.sat_arena.specs.Settled.{IsSettled, IsConsistent}
-use Rattle.sat_arena.specs.Newness.{Propagates, begun, made, denied_but, IsNewAt}
+use Rattle.sat_arena.specs.Newness.{Propagates, begun, made, negated_but, IsNewAt}
 
 -- the literals of a clause other than one are false
 abbrev pub OthersAreFalse : (ℕ → Bool) → List ℕ → ℕ → Type 0
@@ -28,21 +28,21 @@ settled_is_true known clause literal settled consistent others = elim settled [
 
 -- where every clause is settled, propagation from what is known makes nothing else true
 pub known_Propagates : (clauses : List (List ℕ)) (given known : ℕ → Bool) → All (IsSettled known) clauses → IsConsistent known → ((m : ℕ) → given m ≡ true → known m ≡ true) → (literal : ℕ) → Propagates clauses given literal → known literal ≡ true
-known_Propagates clauses given known settled consistent told literal (begun l e) = told l e
-known_Propagates clauses given known settled consistent told literal (made clause l in_list holds others) =
+known_Propagates clauses given known settled consistent true_in literal (begun l e) = true_in l e
+known_Propagates clauses given known settled consistent true_in literal (made clause l in_list holds others) =
     settled_is_true known clause l (All-contains (IsSettled known) clauses clause settled in_list) consistent
-    (λ m holds_m ne. known_Propagates clauses given known settled consistent told (negation m) (others m holds_m ne))
+    (λ m holds_m ne. known_Propagates clauses given known settled consistent true_in (negation m) (others m holds_m ne))
 
 module _ (clauses : List (List ℕ)) (clause : List ℕ) (literal : ℕ) (known : ℕ → Bool) (settled : All (IsSettled known) clauses) (consistent : IsConsistent known) (others : OthersAreFalse known clause literal) where
-  given_known : (m : ℕ) → denied_but clause literal m ≡ true → known m ≡ true
+  given_known : (m : ℕ) → negated_but clause literal m ≡ true → known m ≡ true
   given_known m e =
       let some : Any (λ l. (not (l == literal) && (negation l == m)) ≡ true) clause = Any-from_list_any (λ l. not (l == literal) && (negation l == m)) clause e in
       let parts = and_parts (not (some.1 == literal)) (negation some.1 == m) some.4 in
       subst (λ (n : ℕ). known n ≡ true) (eqb-true (negation some.1) m parts.1)
       (others some.1 (some.0, some.2, some.3) (λ e. eqb-false some.1 literal (not-true (some.1 == literal) parts.0) e))
 
-  reached : (m : ℕ) → Propagates clauses (denied_but clause literal) m → known m ≡ true
-  reached m p = known_Propagates clauses (denied_but clause literal) known settled consistent given_known m p
+  reached : (m : ℕ) → Propagates clauses (negated_but clause literal) m → known m ≡ true
+  reached m p = known_Propagates clauses (negated_but clause literal) known settled consistent given_known m p
 
   pub IsNewAt-from_settled : Contains clause literal → known literal ≡ false → IsNewAt clauses clause literal
   IsNewAt-from_settled holds untrue = record {

@@ -1,4 +1,4 @@
--- Clauses that are settled, from the places of their literals.
+-- Clauses that are settled, from the positions of their literals.
 use Rattle.std.proofs.Common.{◌≡◌, ◌≢◌, ℕ, Bool, false, List, arith, inl, inr, get_or, length, ◌<◌, sym, ◌∙◌, ap}
 use Rattle.std.proofs.lemmas.Bool.{cases_order}
 use Rattle.std.proofs.lemmas.List.{get_or_default}
@@ -7,8 +7,8 @@ use Rattle.sat_lits.specs.Clauses.{HasRisingVariables}
 use Rattle.sat_lits.proofs.Rising.{rises}
 use Rattle.sat_arena.specs.Settled.{IsSettled}
 
--- two places of a clause have two literals
-two_literals : (lits : List ℕ) → HasRisingVariables lits → (i j : ℕ) → i < length lits → j < length lits → i ≢ j → get_or lits i 0 ≡ get_or lits j 0 → ⊥
+-- two positions of a clause have two literals
+pub two_literals : (lits : List ℕ) → HasRisingVariables lits → (i j : ℕ) → i < length lits → j < length lits → i ≢ j → get_or lits i 0 ≡ get_or lits j 0 → ⊥
 two_literals lits rising i j within_i within_j ne same = elim (cases_order i j) [
   | inl e ↦ ne e
   | inr order ↦ elim order [

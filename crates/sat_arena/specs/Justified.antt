@@ -2,15 +2,16 @@
 use Rattle.std.specs.Prelude.{◌≡◌, ℕ, ◌-◌, ◌<◌, ◌↔◌, Bool, true, List, [], Some, None, length, map, take, slice_index, slice_index_or, All, Contains}
 use Rattle.sat_lits.specs.Literals.{negation}
 use Rattle.sat_arena.specs.declared.trail.Assigned.{Assigned}
-use Rattle.sat_arena.specs.Trails.{told}
+use Rattle.sat_arena.specs.Trails.{true_in}
 
 -- the level of the last entry, and 0 where there is none
-abbrev pub newest : List Assigned → ℕ
-newest entries = slice_index (map (λ e. e.level) entries) (length entries - 1)
+abbrev pub current_level : List Assigned → ℕ
+current_level entries = slice_index (map (λ e. e.level) entries) (length entries - 1)
 
--- the entry stands at the place, counted from 0
-abbrev pub StandsAt : List Assigned → ℕ → Assigned → Type 0
-StandsAt entries place entry = (place < length entries) × (slice_index_or entries place entry ≡ entry)
+-- the entry stands at the position, counted from 0
+abbrev pub IsEntryAt : List Assigned → ℕ → Assigned → Type 0
+IsEntryAt entries position entry = (position < length entries)
+    × (slice_index_or entries position entry ≡ entry)
 
 -- the literal became true at the level
 pub record IsTrueAt (entries : List Assigned) (literal level : ℕ) : Type 0 where
@@ -37,7 +38,10 @@ BeginsLevel before entry = (0 < entry.level) × All (λ e. e.level < entry.level
 
 -- each entry is a decision, which begins a level above 0, or has a clause for its reason
 pub record IsJustified (clauses : List (List ℕ)) (entries : List Assigned) : Type 0 where
-  -- a reason is the place of a clause that holds the literal and otherwise only literals that were false before
-  pub reasons : (i place : ℕ) (entry : Assigned) → StandsAt entries i entry → entry.reason ≡ Some place → (place < length clauses) × IsReason (told (take i entries)) (slice_index_or clauses place []) entry.lit
+  -- a reason is the position of a clause that holds the literal and otherwise only literals that were false before
+  pub reasons : (i position : ℕ) (entry : Assigned) → IsEntryAt entries i entry → entry.reason
+      ≡ Some position → (position < length clauses)
+      × IsReason (true_in (take i entries)) (slice_index_or clauses position []) entry.lit
   -- an entry has no reason exactly where it is the first of a level above 0
-  pub decisions : (i : ℕ) (entry : Assigned) → StandsAt entries i entry → (entry.reason ≡ None) ↔ BeginsLevel (take i entries) entry
+  pub decisions : (i : ℕ) (entry : Assigned) → IsEntryAt entries i entry → (entry.reason ≡ None)
+      ↔ BeginsLevel (take i entries) entry

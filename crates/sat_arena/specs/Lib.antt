@@ -1,10 +1,14 @@
-pub mod Trailed
+pub mod TrailState
 pub mod Trails
 pub mod Settled
 pub mod Status
-pub mod Watches
 pub mod Stored
-pub mod Held
+pub mod ArenaState
 pub mod Deduced
 pub mod Justified
 pub mod Newness
+pub mod Links
+pub mod Guarded
+pub mod Watches
+pub mod PropagatorState
+pub mod Levels

@@ -1,49 +1,64 @@
-//! The clauses among which propagation goes on.
-ghost use Rattle.std.specs.Prelude.{◌≡◌, ℕ, ◌+◌, ◌<◌, ◌≤◌, ◌^◌, ◌++◌, ◌∷◌, [], not, All, filter, length, max, map, slice_index_or, take, false, IfOk, IfNone, IfSome, OnOk, OnErr};
-ghost use Rattle.sat_arena.specs.Trails.{told, marked, IsGrown};
-ghost use Rattle.sat_arena.specs.Watches.{AreTwoPlaces};
-ghost use Rattle.sat_arena.specs.Settled.{IsSettled};
-ghost use Rattle.sat_arena.specs.Held.{clauses_of, among, is_satisfied, AreGrown};
+//! The clauses among which propagation goes on, and which of their literals they watch.
+ghost use Rattle.std.specs.Prelude.{◌≡◌, ℕ, ◌+◌, ◌*◌, ◌<◌, ◌≤◌, ◌^◌, ◌++◌, ◌∷◌, ◌⊎◌, [], not, All, Contains, filter, length, max, map, slice_index_or, slice_set, replicate, take, false, vec_len, vec_capacity, IfOk, IfNone, IfSome, OnOk, OnErr};
+ghost use Rattle.sat_arena.specs.Trails.{true_in, marked, IsGrown};
+ghost use Rattle.sat_arena.specs.ArenaState.{clauses_of, among, is_satisfied, AreGrown};
 ghost use Rattle.sat_arena.specs.Deduced.{Deduces, IsConflict};
+ghost use Rattle.sat_arena.specs.Guarded.{level_at, IsLast};
+ghost use Rattle.sat_arena.specs.Links.{IsLengthened};
+ghost use Rattle.sat_arena.specs.Stored.{Stored};
+ghost use Rattle.sat_arena.specs.Watches.{watch_of, may_watch, watches_after, KeepsWatches, AreTwoOf, IsAnyOf, MovesWatch};
 
-use crate::propagation::propagate;
+use crate::status::{WatchPair, only_or_any};
+use crate::stored::StoredClause;
 use crate::trail::Trail;
-use crate::watched::Watched;
+use crate::visit::{move_to_list, visit_list};
 use sat_lits::{Clause, Lit};
 use smv_ast::{Id, NoMemory};
 use std::alloc::Global;
 use std::marker::Model;
 
-/// Clauses with their ids. Each has a place, counted from 0. A place past the last value of a `u32`
-/// counts as memory that is not there.
+/// Clauses with their ids. Each has a position, counted from 0; one from 2^31 on counts as memory that is
+/// not there. A clause of two or more literals watches two of them.
 ///
-/// Contracts see the list of the clauses with their ids, and the greatest variable that may stand in
-/// one. Which literals are watched they do not see.
+/// Contracts see the list of the clauses with their ids, the greatest variable that may stand in one,
+/// and the watched literals, the two of each clause one after the other.
 #[derive(Drop)]
 pub struct Arena {
     alloc: Global,
-    clauses: Vec<Watched>,
+    clauses: Vec<StoredClause>,
+    watched: Vec<Lit>,
+    links: Vec<u32>,
+    heads: Vec<u32>,
     vars: u32,
 }
 
 impl Model for Arena {
-    ghost use Rattle.sat_arena.specs.Held.{Held, IsArena};
+    ghost use Rattle.sat_arena.specs.ArenaState.{ArenaState};
+    ghost use Rattle.sat_arena.specs.Watches.{IsArena};
 
-    ghost Value = { Held };
+    ghost Value = { ArenaState };
 
-    ghost view = { λ a. record { stored = a.clauses.items; vars = a.vars } };
+    ghost view = { λ a. record {
+      stored = a.clauses.items;
+      vars = a.vars;
+      watched = a.watched.items;
+    } };
 
-    ghost invariant = { λ a. IsArena a.clauses.items a.vars };
+    ghost invariant = { λ a. IsArena a.clauses.items a.watched.items a.links.items a.heads.items
+        a.vars };
 }
 
 impl Arena {
     /// The arena without clauses, over no variables.
     pub fn new(alloc: Global) -> Arena
-        ensures { result ≡ record { stored = []; vars = 0 } }
+        ensures { result ≡ record { stored = []; vars = 0; watched = [] } }
     {
         Arena {
             alloc,
             clauses: Vec::new(alloc),
+            watched: Vec::new(alloc),
+            links: Vec::new(alloc),
+            heads: Vec::new(alloc),
             vars: 0,
         }
     }
@@ -54,57 +69,132 @@ impl Arena {
         ensures ok { OnOk result (self.new ≡ record self.old { vars = max self.old.vars vars }) }
         ensures small { OnOk result (vars < 2 ^ 30) }
         ensures err { OnErr result (self.new ≡ self.old) }
-        ensures cause { OnErr result (2 ^ 30 ≤ vars) }
     {
         if vars >= 1 << 30 {
             return Err(NoMemory);
         }
-        if vars > self.vars {
-            self.vars = vars;
+        if vars <= self.vars {
+            return Ok(());
         }
+        lengthen(&mut self.heads, 2 * vars as usize + 2)?;
+        self.vars = vars;
         Ok(())
     }
 
-    /// Adds the clause behind all others, and answers its place. After `NoMemory` the arena is
-    /// unchanged.
+    /// Adds the clause after all others, and answers its position. It watches its first two literals.
+    /// After `NoMemory` the arena is unchanged.
     pub fn add(&mut self, clause: &Clause, id: Id) -> Result<u32, NoMemory>
         requires grown { All (IsGrown self.old.vars) clause.now }
-        ensures place { IfOk result (λ place. place ≡ length self.old.stored) }
-        ensures ok { OnOk result (self.new ≡ record self.old { stored = self.old.stored ++ record { clause = clause.now; id = id } ∷ [] }) }
+        ensures position { IfOk result (λ position. position ≡ length self.old.stored) }
+        ensures ok { OnOk result (self.new.stored
+            ≡ self.old.stored ++ record { clause = clause.now; id = id } ∷ []) }
+        ensures vars { self.new.vars ≡ self.old.vars }
         ensures err { OnErr result (self.new ≡ self.old) }
     {
-        let place = self.clauses.len();
-        if place >= u32::MAX as usize {
+        let pair = first_two(clause);
+        self.add_watching(clause, id, pair.first, pair.second)
+    }
+
+    /// Adds the clause after all others, with these literals watched, and answers its position. After
+    /// `NoMemory` the arena is unchanged.
+    pub(crate) fn add_watching(
+        &mut self,
+        clause: &Clause,
+        id: Id,
+        first: Lit,
+        second: Lit,
+    ) -> Result<u32, NoMemory>
+        requires grown { All (IsGrown self.old.vars) clause.now }
+        requires first { IsAnyOf clause.now first }
+        requires second { IsAnyOf clause.now second }
+        requires two { 1 < length clause.now → AreTwoOf clause.now first second }
+        ensures position { IfOk result (λ position. position ≡ length self.old.stored) }
+        ensures ok { OnOk result (self.new ≡ record {
+          stored = self.old.stored ++ record { clause = clause.now; id = id } ∷ [];
+          vars = self.old.vars;
+          watched = (self.old.watched ++ first ∷ []) ++ second ∷ [];
+        }) }
+        ensures err { OnErr result (self.new ≡ self.old) }
+    {
+        let position = self.clauses.len();
+        if position >= (1 << 31) - 1 {
             return Err(NoMemory);
         }
         let copy = clause.try_clone(self.alloc)?;
-        self.clauses.push(Watched::new(copy, id))?;
-        Ok(place as u32)
+        self.clauses.reserve(1)?;
+        self.watched.reserve(2)?;
+        self.links.reserve(2)?;
+        lengthen(&mut self.heads, 4)?;
+        self.clauses.push_reserved(StoredClause::new(copy, id));
+        let heads = self.heads.as_mut_slice();
+        append(&mut self.watched, &mut self.links, heads, first);
+        append(&mut self.watched, &mut self.links, heads, second);
+        Ok(position as u32)
     }
 
-    /// Watches `to` in place of `from` in the clause at the place. Where the clause does not watch
-    /// `from`, does not hold `to` or watches it already, nothing changes. It takes no memory.
+    /// Watches `to` in the place of `from` in the clause at the position. Where the clause has fewer than
+    /// two literals, does not watch `from`, does not hold `to` or watches it already, nothing changes. It
+    /// takes no memory.
     pub fn move_watch(&mut self, at: u32, from: Lit, to: Lit)
         requires { at < length self.old.stored }
-        ensures { self.new ≡ self.old }
+        ensures { self.new ≡ record self.old {
+          watched = watches_after
+              (slice_index_or (clauses_of self.old.stored) at []) self.old.watched at from to;
+        } }
     {
-        let clause = &mut self.clauses[at as usize];
-        clause.move_watch(from, to);
+        if let Some(watch) = self.watch_to_move(at, from, to) {
+            move_to_list(
+                self.watched.as_mut_slice(),
+                self.links.as_mut_slice(),
+                self.heads.as_mut_slice(),
+                watch,
+                to,
+            );
+        }
+    }
+
+    /// Which watch of the clause at the position is to watch `to` in the place of `from`.
+    fn watch_to_move(&self, at: u32, from: Lit, to: Lit) -> Option<usize>
+        requires { at < length self.now.stored }
+        ensures some { IfSome result (λ watch. MovesWatch self.now.stored self.now.watched at from to watch) }
+        ensures none { IfNone result (watches_after
+            (slice_index_or (clauses_of self.now.stored) at []) self.now.watched at from to
+            ≡ self.now.watched) }
+    {
+        let _ = &self.alloc;
+        let pair = self.watches(at);
+        if !is_watchable(self.lits(at), pair.first, pair.second, to) {
+            return None;
+        }
+        let watch = 2 * at as usize;
+        if pair.first == from {
+            return Some(watch);
+        }
+        if pair.second == from {
+            return Some(watch + 1);
+        }
+        None
     }
 
     /// Takes out the clauses of two or more literals of which one is among the root literals, and
     /// answers how many. The others keep their order. It takes the time of going once over the clauses
     /// and the root literals. After `NoMemory` the arena is unchanged.
     pub fn reclaim(&mut self, root: &[Lit]) -> Result<u32, NoMemory>
-        ensures ok { OnOk result (self.new ≡ record self.old { stored = filter (λ s. not (is_satisfied (among root.now) s)) self.old.stored }) }
-        ensures count { IfOk result (λ count. count + length self.new.stored ≡ length self.old.stored) }
+        ensures ok { OnOk result (self.new.stored
+            ≡ filter (λ s. not (is_satisfied (among root.now) s)) self.old.stored) }
+        ensures vars { OnOk result (self.new.vars ≡ self.old.vars) }
+        ensures count { IfOk result (λ count. count + length self.new.stored
+            ≡ length self.old.stored) }
         ensures err { OnErr result (self.new ≡ self.old) }
     {
-        let flags = flags_of(self.alloc, root)?;
-        let before = self.clauses.len();
-        let kept = bring_forward(self.clauses.as_mut_slice(), &flags);
-        self.clauses.truncate(kept);
-        Ok((before - kept) as u32)
+        let literal_set = literal_set_of(self.alloc, root)?;
+        let before = self.len();
+        let mut kept = Arena::new(self.alloc);
+        kept.grow(self.vars)?;
+        copy_kept(self, &literal_set, &mut kept)?;
+        let after = kept.len();
+        *self = kept;
+        Ok(before - after)
     }
 
     /// How many clauses there are.
@@ -115,7 +205,7 @@ impl Arena {
         self.clauses.len() as u32
     }
 
-    /// The literals of the clause at the place.
+    /// The literals of the clause at the position.
     pub fn lits(&self, at: u32) -> &[Lit]
         requires { at < length self.now.stored }
         ensures { result.now ≡ slice_index_or (clauses_of self.now.stored) at [] }
@@ -123,16 +213,75 @@ impl Arena {
         self.clauses[at as usize].lits()
     }
 
-    /// The places, among the literals of the clause at the place, of the two that it watches. In a clause
-    /// of fewer than two literals they are no places. It takes no memory.
-    pub fn watches(&self, at: u32) -> (usize, usize)
+    /// The clause at the position.
+    fn clause(&self, at: u32) -> &Clause
         requires { at < length self.now.stored }
-        ensures { AreTwoPlaces result.0 result.1 (length (slice_index_or (clauses_of self.now.stored) at [])) }
+        ensures { result.now ≡ slice_index_or (clauses_of self.now.stored) at [] }
     {
-        self.clauses[at as usize].watches()
+        self.clauses[at as usize].clause()
     }
 
-    /// The id under which proofs cite the clause at the place.
+    /// The two literals that the clause at the position watches. They say nothing of a clause of fewer
+    /// than two literals.
+    pub fn watches(&self, at: u32) -> WatchPair
+        requires { at < length self.now.stored }
+        ensures first { result.first ≡ watch_of self.now.watched (2 * at) }
+        ensures second { result.second ≡ watch_of self.now.watched (2 * at + 1) }
+    {
+        WatchPair {
+            first: self.watched[2 * at as usize],
+            second: self.watched[2 * at as usize + 1],
+        }
+    }
+
+    /// What the clause at the position watches. One of fewer than two literals watches the only one twice,
+    /// or else any.
+    fn watches_or_any(&self, at: u32) -> WatchPair
+        requires { at < length self.now.stored }
+        ensures first { IsAnyOf (slice_index_or (clauses_of self.now.stored) at [])
+            result.first }
+        ensures second { IsAnyOf (slice_index_or (clauses_of self.now.stored) at [])
+            result.second }
+        ensures two { 1 < length (slice_index_or (clauses_of self.now.stored) at [])
+            → AreTwoOf (slice_index_or (clauses_of self.now.stored) at [])
+            result.first result.second }
+    {
+        let _ = &self.alloc;
+        let lits = self.lits(at);
+        if lits.len() > 1 {
+            return self.watches(at);
+        }
+        let only = only_or_any(lits);
+        WatchPair {
+            first: only,
+            second: only,
+        }
+    }
+
+    /// Whether the clause at the position has two or more literals of which one is in the set.
+    fn is_satisfied(&self, at: u32, literal_set: &[bool]) -> bool
+        requires { at < length self.now.stored }
+        ensures { (d : Stored) → result
+            ≡ is_satisfied (marked literal_set.now) (slice_index_or self.now.stored at d) }
+    {
+        self.clauses[at as usize].is_satisfied(literal_set)
+    }
+
+    /// Adds the clause at the position to another arena.
+    fn copy_to(&self, at: u32, kept: &mut Arena) -> Result<(), NoMemory>
+        requires at { at < length self.now.stored }
+        requires vars { kept.old.vars ≡ self.now.vars }
+        ensures vars { kept.new.vars ≡ kept.old.vars }
+        ensures ok { OnOk result ((d : Stored) → kept.new.stored
+            ≡ kept.old.stored ++ slice_index_or self.now.stored at d ∷ []) }
+    {
+        let _count = self.len();
+        let pair = self.watches_or_any(at);
+        kept.add_watching(self.clause(at), self.id(at), pair.first, pair.second)?;
+        Ok(())
+    }
+
+    /// The id under which proofs cite the clause at the position.
     pub fn id(&self, at: u32) -> Id
         requires { at < length self.now.stored }
         ensures { result ≡ slice_index_or (map (λ s. s.id) self.now.stored) at result }
@@ -140,44 +289,119 @@ impl Arena {
         self.clauses[at as usize].id()
     }
 
-    /// Makes true, at the level, what the clauses force, until they force nothing more or one of them is
-    /// falsified, whose place it answers. It takes no memory.
-    pub fn propagate(&mut self, trail: &mut Trail, level: u32) -> Option<u32>
-        requires vars { self.old.vars ≤ trail.old.vars }
-        requires newest { All (λ e. e.level ≤ level) trail.old.entries }
-        ensures arena { self.new ≡ self.old }
+    /// Goes through the clauses that watch the literal that the entry at the head of the queue made
+    /// false. Makes true what they force, at the level of the entry, and answers the position of one that
+    /// is falsified. It takes no memory.
+    pub(crate) fn visit_watches(&mut self, trail: &mut Trail, head: usize) -> Option<u32>
+        requires vars { trail.old.vars ≤ self.old.vars }
+        requires grown { AreGrown trail.old.vars (clauses_of self.old.stored) }
+        requires last { IsLast trail.old.entries head }
+        requires keeps { KeepsWatches trail.old.entries head (clauses_of self.old.stored)
+            self.old.watched }
+        ensures others { self.new ≡ record self.old { watched = self.new.watched } }
         ensures vars { trail.new.vars ≡ trail.old.vars }
-        ensures deduced { Deduces (clauses_of self.old.stored) level trail.old.entries trail.new.entries }
-        ensures settled { IfNone result (All (IsSettled (told trail.new.entries)) (clauses_of self.old.stored)) }
-        ensures conflict { IfSome result (IsConflict (clauses_of self.old.stored) trail.new.entries) }
+        ensures deduced { Deduces (clauses_of self.old.stored) (level_at trail.old.entries head)
+            trail.old.entries trail.new.entries }
+        ensures keeps { KeepsWatches trail.new.entries head (clauses_of self.old.stored)
+            self.new.watched }
+        ensures done { IfNone result (KeepsWatches trail.new.entries (head + 1)
+            (clauses_of self.old.stored) self.new.watched) }
+        ensures conflict { IfSome result (IsConflict (clauses_of self.old.stored)
+            trail.new.entries) }
     {
-        propagate(self.clauses.as_mut_slice(), trail, level)
+        let entry = trail.entries()[head];
+        visit_list(
+            &self.clauses,
+            self.watched.as_mut_slice(),
+            self.links.as_mut_slice(),
+            self.heads.as_mut_slice(),
+            trail,
+            head,
+            &entry,
+        )
     }
 }
 
-/// Brings the clauses that stay to the front, in their order, and answers how many stay.
-fn bring_forward(clauses: &mut [Watched], flags: &[bool]) -> usize
-    ensures within { result ≤ length clauses.old }
-    ensures front { take result clauses.new ≡ filter (λ s. not (is_satisfied (marked flags.now) s)) clauses.old }
+/// Lengthens the table to at least so many, with zeros.
+fn lengthen(heads: &mut Vec<u32>, least: usize) -> Result<(), NoMemory>
+    ensures lengthened { IsLengthened heads.old.items heads.new.items }
+    ensures long { OnOk result (least ≤ length heads.new.items) }
 {
-    let mut kept = 0;
-    for at in 0..clauses.len() {
-        if !clauses[at].is_satisfied(flags) {
-            clauses.swap(kept, at);
-            kept += 1;
+    if heads.len() < least {
+        heads.resize(least, 0)?;
+    }
+    Ok(())
+}
+
+/// Appends a watch of the literal to the tables, at the front of the literal's list.
+fn append(watched: &mut Vec<Lit>, links: &mut Vec<u32>, heads: &mut [u32], lit: Lit)
+    requires room { vec_len watched.old < vec_capacity watched.old }
+    requires links_room { vec_len links.old < vec_capacity links.old }
+    requires listed { lit < length heads.old }
+    requires small { length links.old.items + 1 < 2 ^ 32 }
+    ensures watched_room { vec_capacity watched.new ≡ vec_capacity watched.old }
+    ensures links_capacity { vec_capacity links.new ≡ vec_capacity links.old }
+    ensures watched { watched.new.items ≡ watched.old.items ++ lit ∷ [] }
+    ensures links { links.new.items ≡ links.old.items ++ slice_index_or heads.old lit 0 ∷ [] }
+    ensures heads { heads.new ≡ slice_set heads.old lit (length links.old.items + 1) }
+{
+    let list = lit.code() as usize;
+    watched.push_reserved(lit);
+    links.push_reserved(heads[list]);
+    heads[list] = links.len() as u32;
+}
+
+/// The first two literals of a clause. Of one of fewer it is the only one twice, or else any.
+fn first_two(clause: &Clause) -> WatchPair
+    ensures first { IsAnyOf clause.now result.first }
+    ensures second { IsAnyOf clause.now result.second }
+    ensures two { 1 < length clause.now → AreTwoOf clause.now result.first result.second }
+{
+    let lits = clause.lits();
+    if lits.len() > 1 {
+        return WatchPair {
+            first: lits[0],
+            second: lits[1],
+        };
+    }
+    let only = only_or_any(lits);
+    WatchPair {
+        first: only,
+        second: only,
+    }
+}
+
+/// Whether a clause of these literals, which watches the two, may watch `to` in the place of one.
+fn is_watchable(lits: &[Lit], first: Lit, second: Lit, to: Lit) -> bool
+    ensures { result ≡ may_watch lits.now first second to }
+{
+    lits.len() > 1 && lits.contains(&to) && first != to && second != to
+}
+
+/// Copies the clauses that are not satisfied by a literal of the set, with what they watch.
+fn copy_kept(arena: &Arena, literal_set: &[bool], kept: &mut Arena) -> Result<(), NoMemory>
+    requires none { kept.old.stored ≡ [] }
+    requires vars { kept.old.vars ≡ arena.now.vars }
+    ensures vars { kept.new.vars ≡ kept.old.vars }
+    ensures ok { OnOk result (kept.new.stored
+        ≡ filter (λ s. not (is_satisfied (marked literal_set.now) s)) arena.now.stored) }
+{
+    for at in 0..arena.len() {
+        if !arena.is_satisfied(at, literal_set) {
+            arena.copy_to(at, kept)?;
         }
     }
-    kept
+    Ok(())
 }
 
-/// A table that flags these literals by their codes.
-fn flags_of(alloc: Global, lits: &[Lit]) -> Result<Vec<bool>, NoMemory>
-    ensures { IfOk result (λ flags. (l : ℕ) → marked flags.items l ≡ among lits.now l) }
+/// The set of these literals, by their codes.
+fn literal_set_of(alloc: Global, lits: &[Lit]) -> Result<Vec<bool>, NoMemory>
+    ensures { IfOk result (λ literal_set. (l : ℕ) → marked literal_set.items l ≡ among lits.now l) }
 {
-    let mut flags = Vec::new(alloc);
-    flags.resize(codes_of(lits), false)?;
-    flag(flags.as_mut_slice(), lits);
-    Ok(flags)
+    let mut literal_set = Vec::new(alloc);
+    literal_set.resize(codes_of(lits), false)?;
+    insert_all(literal_set.as_mut_slice(), lits);
+    Ok(literal_set)
 }
 
 /// A number above the code of each literal.
@@ -191,13 +415,13 @@ fn codes_of(lits: &[Lit]) -> usize
     codes
 }
 
-/// Flags these literals, in a table where none is.
-fn flag(flags: &mut [bool], lits: &[Lit])
-    requires room { All (λ l. l < length flags.old) lits.now }
-    requires none { (l : ℕ) → marked flags.old l ≡ false }
-    ensures { (l : ℕ) → marked flags.new l ≡ among lits.now l }
+/// Puts these literals into an empty set.
+fn insert_all(literal_set: &mut [bool], lits: &[Lit])
+    requires room { All (λ l. l < length literal_set.old) lits.now }
+    requires none { (l : ℕ) → marked literal_set.old l ≡ false }
+    ensures { (l : ℕ) → marked literal_set.new l ≡ among lits.now l }
 {
     for lit in lits {
-        flags[lit.code() as usize] = true;
+        literal_set[lit.code() as usize] = true;
     }
 }

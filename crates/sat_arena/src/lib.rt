@@ -2,11 +2,15 @@
 #![tactic(auto)]
 
 mod arena;
-mod propagation;
+mod propagator;
+mod status;
+mod stored;
 mod trail;
-mod watched;
+mod visit;
 
 pub use arena::Arena;
+pub use propagator::Propagator;
+pub use status::WatchPair;
 pub use trail::{Assigned, Trail};
 
 #[cfg(test)]

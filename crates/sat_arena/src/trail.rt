@@ -1,7 +1,8 @@
 //! The literals that are true, in the order in which they became so.
 ghost use Rattle.std.specs.Prelude.{◌≡◌, ℕ, ◌+◌, ◌≤◌, ◌<◌, ◌^◌, ◌&&◌, true, false, not, [], ◌∷◌, ◌++◌, All, AllPairs, length, max, take, drop, OnOk, OnErr};
 ghost use Rattle.sat_lits.specs.Literals.{negation, variable_of};
-ghost use Rattle.sat_arena.specs.Trails.{told, up_to, marked, IsOrderly};
+ghost use Rattle.sat_arena.specs.Trails.{true_in, up_to, marked, IsOrderly, IsPositionOf};
+ghost use Rattle.sat_arena.specs.Justified.{current_level};
 ghost use Rattle.sat_arena.specs.Settled.{IsConsistent};
 
 use sat_lits::Lit;
@@ -15,32 +16,34 @@ pub struct Assigned {
     pub lit: Lit,
     /// How many decisions had been made by then.
     pub level: u32,
-    /// The place of the clause that forced the literal; `None` where it was decided.
+    /// The position of the clause that forced the literal; `None` where it was decided.
     pub reason: Option<u32>,
 }
 
-/// The literals that are true, by rising levels, and a flag for each literal by its code. No variable
-/// stands there twice.
+/// The literals that are true, by rising levels. No variable stands there twice. Beside them are whether
+/// each literal is true, by its code, and the position of each assigned variable's entry.
 ///
 /// Contracts see the entries in their order, and the greatest variable that may be assigned.
 #[derive(Drop)]
 pub struct Trail {
     entries: Vec<Assigned>,
     truth: Vec<bool>,
+    positions: Vec<u32>,
     vars: u32,
 }
 
 impl Model for Trail {
-    ghost use Rattle.sat_arena.specs.Trailed.{Trailed};
+    ghost use Rattle.sat_arena.specs.TrailState.{TrailState};
 
-    ghost Value = { Trailed };
+    ghost Value = { TrailState };
 
     ghost use Rattle.std.specs.Prelude.{vec_capacity};
     ghost use Rattle.sat_arena.specs.Trails.{KeepsTogether};
 
     ghost view = { λ t. record { entries = t.entries.items; vars = t.vars } };
 
-    ghost invariant = { λ t. KeepsTogether t.entries.items t.truth.items t.vars (vec_capacity t.entries) };
+    ghost invariant = { λ t. KeepsTogether t.entries.items t.truth.items
+        t.positions.items t.vars (vec_capacity t.entries) };
 }
 
 impl Trail {
@@ -51,6 +54,7 @@ impl Trail {
         Trail {
             entries: Vec::new(alloc),
             truth: Vec::new(alloc),
+            positions: Vec::new(alloc),
             vars: 0,
         }
     }
@@ -70,6 +74,7 @@ impl Trail {
             return Ok(());
         }
         self.entries.reserve(vars as usize + 1)?;
+        self.positions.resize(vars as usize + 1, 0)?;
         self.truth.resize(2 * vars as usize + 2, false)?;
         self.vars = vars;
         Ok(())
@@ -78,13 +83,14 @@ impl Trail {
     /// Makes one more literal true. It takes no memory.
     pub fn push(&mut self, entry: Assigned)
         requires grown { variable_of entry.lit ≤ self.old.vars }
-        requires not_true { told self.old.entries entry.lit ≡ false }
-        requires not_false { told self.old.entries (negation entry.lit) ≡ false }
-        requires newest { All (λ e. e.level ≤ entry.level) self.old.entries }
+        requires not_true { true_in self.old.entries entry.lit ≡ false }
+        requires not_false { true_in self.old.entries (negation entry.lit) ≡ false }
+        requires current_level { All (λ e. e.level ≤ entry.level) self.old.entries }
         ensures { self.new ≡ record self.old { entries = self.old.entries ++ entry ∷ [] } }
     {
         let code = entry.lit.code() as usize;
         self.truth[code] = true;
+        self.positions[entry.lit.var() as usize] = self.entries.len() as u32;
         self.entries.push(entry).unwrap();
     }
 
@@ -101,7 +107,7 @@ impl Trail {
     pub fn entries(&self) -> &[Assigned]
         ensures same { result.now ≡ self.now.entries }
         ensures orderly { IsOrderly self.now.entries self.now.vars }
-        ensures consistent { IsConsistent (told self.now.entries) }
+        ensures consistent { IsConsistent (true_in self.now.entries) }
         ensures few { length self.now.entries ≤ self.now.vars + 1 }
     {
         &self.entries
@@ -117,9 +123,28 @@ impl Trail {
     /// Whether the literal is true, in constant time. It is false where its negation is true.
     pub fn is_true(&self, lit: Lit) -> bool
         requires grown { variable_of lit ≤ self.now.vars }
-        ensures { result ≡ told self.now.entries lit }
+        ensures { result ≡ true_in self.now.entries lit }
     {
         self.truth[lit.code() as usize]
+    }
+
+    /// The position of the entry of the literal's variable, in constant time. Where the variable is not
+    /// assigned, it says nothing.
+    pub fn position_of(&self, lit: Lit) -> usize
+        requires grown { variable_of lit ≤ self.now.vars }
+        ensures { IsPositionOf self.now.entries lit result }
+    {
+        self.positions[lit.var() as usize] as usize
+    }
+
+    /// The current decision level: that of the last entry, and 0 where there is none.
+    pub fn level(&self) -> u32
+        ensures { result ≡ current_level self.now.entries }
+    {
+        match self.entries.last() {
+            Some(entry) => entry.level,
+            None => 0,
+        }
     }
 }
 
@@ -136,11 +161,12 @@ fn count_up_to(entries: &[Assigned], level: u32) -> usize
     kept
 }
 
-/// Takes the flags of the entries from a place on.
+/// Takes the literal_set of the entries from a position on.
 fn clear(truth: &mut [bool], entries: &[Assigned], from: usize)
     requires start { from ≤ length entries.now }
     requires room { All (λ e. e.lit < length truth.old) entries.now }
-    ensures cleared { (l : ℕ) → marked truth.new l ≡ (marked truth.old l && not (told (drop from entries.now) l)) }
+    ensures cleared { (l : ℕ) → marked truth.new l
+        ≡ (marked truth.old l && not (true_in (drop from entries.now) l)) }
 {
     for entry in &entries[from..] {
         truth[entry.lit.code() as usize] = false;

@@ -3,7 +3,7 @@ use Rattle.std.proofs.Common.{◌≡◌, ℕ, List, [], ◌∷◌, ◌++◌, Opt
 use Rattle.std.proofs.lemmas.Bool.{cases_eq}
 use Rattle.std.specs.Cmp.Lexicographic.{pointwise, bytes_decides}
 use Rattle.std.proofs.lemmas.Bool.{cases_Bool, false≢true}
-use Rattle.sat_lits.specs.Steps.{numbered, replaced, Stands}
+use Rattle.sat_lits.specs.Steps.{numbered, replaced, IsLive}
 use Rattle.sat_lits.specs.Table.{number_of, Puts, Indexes}
 use Rattle.sat_lits.proofs.Numbered.{numbered-nil, numbered-append, numbered-push, numbered-last, numbered-replaced_other, numbered-replaced_same}
 
@@ -29,7 +29,7 @@ same_clause a b = elim (cases_Bool (pointwise nat_eq a b)) [
 ]
 
 -- a clause that does not stand has no number
-pub Indexes-absent : (table : List (List ℕ × ℕ)) (lines : List (Option (List ℕ))) (clause : List ℕ) → Indexes table lines → (Stands lines clause → ⊥) → number_of table clause ≡ None
+pub Indexes-absent : (table : List (List ℕ × ℕ)) (lines : List (Option (List ℕ))) (clause : List ℕ) → Indexes table lines → (IsLive lines clause → ⊥) → number_of table clause ≡ None
 Indexes-absent table lines clause index fresh = at (number_of table clause) refl
   where
     at : (number : Option ℕ) → number_of table clause ≡ number → number_of table clause ≡ None
@@ -37,13 +37,13 @@ Indexes-absent table lines clause index fresh = at (number_of table clause) refl
     at (Some n) e = absurd (fresh (n, index.stands clause n e))
 
 -- a clause has a number exactly where it stands
-pub Indexes-Stands : (table : List (List ℕ × ℕ)) (lines : List (Option (List ℕ))) (clause : List ℕ) → Indexes table lines → (IsSome (number_of table clause) ↔ Stands lines clause)
-Indexes-Stands table lines clause index = (
+pub Indexes-IsLive : (table : List (List ℕ × ℕ)) (lines : List (Option (List ℕ))) (clause : List ℕ) → Indexes table lines → (IsSome (number_of table clause) ↔ IsLive lines clause)
+Indexes-IsLive table lines clause index = (
   at (number_of table clause) refl,
   λ stands. (let found : number_of table clause ≡ Some stands.0 = index.finds clause stands.0 stands.1 in rw found refl),
 )
   where
-    at : (number : Option ℕ) → number_of table clause ≡ number → IsSome number → Stands lines clause
+    at : (number : Option ℕ) → number_of table clause ≡ number → IsSome number → IsLive lines clause
     at None e some = absurd (false≢true some)
     at (Some n) e some = (n, index.stands clause n e)
 

@@ -74,16 +74,16 @@ numbered-replaced_other xs zero m x ne = refl
 numbered-replaced_other xs (suc i) zero x ne = refl
 numbered-replaced_other xs (suc i) (suc j) x ne = slice_get-set_other xs i j x (λ e. ne (ap suc e))
 
--- numbers are places counted from 1
-pub numbered-place : {X : Type 0} (xs : List X) (n : ℕ) → 1 ≤ n → numbered xs n ≡ slice_get xs (n - 1)
-numbered-place xs zero positive = absurd (omega arith)
-numbered-place xs (suc i) positive = (let e : suc i - 1 ≡ i = omega arith in rw e refl)
+-- numbers are positions counted from 1
+pub numbered-position : {X : Type 0} (xs : List X) (n : ℕ) → 1 ≤ n → numbered xs n ≡ slice_get xs (n - 1)
+numbered-position xs zero positive = absurd (omega arith)
+numbered-position xs (suc i) positive = (let e : suc i - 1 ≡ i = omega arith in rw e refl)
 
-pub replaced-place : {X : Type 0} (xs : List X) (n : ℕ) (x : X) → 1 ≤ n → replaced xs n x ≡ set xs (n - 1) x
-replaced-place xs zero x positive = absurd (omega arith)
-replaced-place xs (suc i) x positive = (let e : suc i - 1 ≡ i = omega arith in rw e refl)
+pub replaced-position : {X : Type 0} (xs : List X) (n : ℕ) (x : X) → 1 ≤ n → replaced xs n x ≡ set xs (n - 1) x
+replaced-position xs zero x positive = absurd (omega arith)
+replaced-position xs (suc i) x positive = (let e : suc i - 1 ≡ i = omega arith in rw e refl)
 
--- an item of a mapped list comes from one at the same place
+-- an item of a mapped list comes from one at the same position
 pub slice_get-map_from : {X Y : Type 0} (f : X → Y) (xs : List X) (i : ℕ) (y : Y) → slice_get (map f xs) i ≡ Some y → (x : X) × (slice_get xs i ≡ Some x) × (f x ≡ y)
 slice_get-map_from f [] i y e = cc
 slice_get-map_from f (x ∷ xs) zero y e = (x, refl, cc)

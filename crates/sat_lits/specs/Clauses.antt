@@ -6,7 +6,8 @@ use Rattle.sat_lits.specs.Literals.{variable_of, literal_true}
 
 -- the variable of each literal is below that of the next one
 abbrev pub HasRisingVariables : List ℕ → Type 0
-HasRisingVariables lits = (k : ℕ) → k + 1 < length lits → variable_of (slice_index lits k) < variable_of (slice_index lits (k + 1))
+HasRisingVariables lits = (k : ℕ) → k + 1 < length lits
+    → variable_of (slice_index lits k) < variable_of (slice_index lits (k + 1))
 
 -- whether some literal of the clause is true
 abbrev pub clause_true : (ℕ → Bool) → List ℕ → Bool
@@ -18,4 +19,5 @@ Satisfies values clauses = All (λ clause. clause_true values clause ≡ true) c
 
 -- the clause is true wherever all of these are
 abbrev pub Follows : List (List ℕ) → List ℕ → Type 0
-Follows clauses clause = (values : ℕ → Bool) → Satisfies values clauses → clause_true values clause ≡ true
+Follows clauses clause = (values : ℕ → Bool) → Satisfies values clauses → clause_true values clause
+    ≡ true

@@ -18,4 +18,5 @@ negation l = l + 1 - 2 * (l % 2)
 
 -- whether the literal is true where the variables have these values
 abbrev pub literal_true : (ℕ → Bool) → ℕ → Bool
-literal_true values l = if is_positive_literal l then values (variable_of l) else not (values (variable_of l))
+literal_true values l = if is_positive_literal l then values (variable_of l) else not
+    (values (variable_of l))

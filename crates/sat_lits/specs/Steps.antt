@@ -42,41 +42,44 @@ abbrev pub with : (ℕ → Bool) → ℕ → (ℕ → Bool)
 with known literal = λ l. (l == literal) || known l
 
 -- what is known where the clause is assumed to be false
-abbrev pub denied : List ℕ → (ℕ → Bool)
-denied clause = λ l. list_any (λ m. negation m == l) clause
+abbrev pub negated : List ℕ → (ℕ → Bool)
+negated clause = λ l. list_any (λ m. negation m == l) clause
 
 -- the hinted clauses in their order each force a literal, which is then made true, and the last is falsified
 abbrev pub Refutes : (Id → Option (List ℕ)) → (ℕ → Bool) → List Id → Type 0
 Refutes names known [] = ⊥
 Refutes names known (hint ∷ hints) =
-    (clause : List ℕ) × (names hint ≡ Some clause) × ((IsFalsified known clause × (hints ≡ [])) ⊎ ((literal : ℕ) × Forces known clause literal × Refutes names (with known literal) hints))
+    (clause : List ℕ) × (names hint ≡ Some clause)
+    × ((IsFalsified known clause × (hints ≡ []))
+    ⊎ ((literal : ℕ) × Forces known clause literal × Refutes names (with known literal) hints))
 
 -- the step that derives the clause is right: with the clause assumed to be false, its hints refute
-abbrev pub IsRight : List (List ℕ) → List (Option (List ℕ)) → List ℕ → List Id → Type 0
-IsRight axioms lines clause hints = Refutes (named axioms lines) (denied clause) hints
+abbrev pub IsRupStep : List (List ℕ) → List (Option (List ℕ)) → List ℕ → List Id → Type 0
+IsRupStep axioms lines clause hints = Refutes (named axioms lines) (negated clause) hints
 
 -- each line that stands follows from the axioms
 abbrev pub LinesFollow : List (List ℕ) → List (Option (List ℕ)) → Type 0
-LinesFollow axioms lines = (n : ℕ) (clause : List ℕ) → numbered lines n ≡ Some (Some clause) → Follows axioms clause
+LinesFollow axioms lines = (n : ℕ) (clause : List ℕ) → numbered lines n ≡ Some (Some clause)
+    → Follows axioms clause
 
 -- ---- Which lines a log may keep
 
 -- the clause is a line that stands
-abbrev pub Stands : List (Option (List ℕ)) → List ℕ → Type 0
-Stands lines clause = (n : ℕ) × (numbered lines n ≡ Some (Some clause))
+abbrev pub IsLive : List (Option (List ℕ)) → List ℕ → Type 0
+IsLive lines clause = (n : ℕ) × (numbered lines n ≡ Some (Some clause))
 
 -- beside other literals, the clause holds one that stands as a unit clause
 pub record HoldsUnit (lines : List (Option (List ℕ))) (clause : List ℕ) : Type 0 where
   pub longer : 1 < length clause
   pub literal : ℕ
   pub holds : Contains clause literal
-  pub stands : Stands lines (literal ∷ [])
+  pub stands : IsLive lines (literal ∷ [])
 
 -- a log has no use for the clause: it stands already, or it holds the literal of a unit clause that does, beside others
 abbrev pub IsRedundant : List (Option (List ℕ)) → List ℕ → Type 0
-IsRedundant lines clause = HoldsUnit lines clause ⊎ Stands lines clause
+IsRedundant lines clause = HoldsUnit lines clause ⊎ IsLive lines clause
 
--- the line of this number stands, and holds the literal of a standing unit clause beside others
+-- the line of this number stands, and holds the literal of a live unit clause beside others
 pub record IsRetirable (lines : List (Option (List ℕ))) (number : ℕ) : Type 0 where
   pub clause : List ℕ
   pub stands : numbered lines number ≡ Some (Some clause)

@@ -14,5 +14,7 @@ pub record Puts (old new : List (List ℕ × ℕ)) (clause : List ℕ) (number :
 
 -- the table gives each line that stands its number, and no other clause a number
 pub record Indexes (table : List (List ℕ × ℕ)) (lines : List (Option (List ℕ))) : Type 0 where
-  pub finds : (clause : List ℕ) (n : ℕ) → numbered lines n ≡ Some (Some clause) → number_of table clause ≡ Some n
-  pub stands : (clause : List ℕ) (n : ℕ) → number_of table clause ≡ Some n → numbered lines n ≡ Some (Some clause)
+  pub finds : (clause : List ℕ) (n : ℕ) → numbered lines n ≡ Some (Some clause)
+      → number_of table clause ≡ Some n
+  pub stands : (clause : List ℕ) (n : ℕ) → number_of table clause ≡ Some n → numbered lines n
+      ≡ Some (Some clause)

@@ -36,7 +36,7 @@ impl Lit {
         }
     }
 
-    /// Twice the variable, and one more where the literal is negative: the place of the literal in a
+    /// Twice the variable, and one more where the literal is negative: the position of the literal in a
     /// table over all literals.
     pub fn code(self) -> u32
         ensures code { result ≡ self }

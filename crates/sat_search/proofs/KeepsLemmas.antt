@@ -9,11 +9,11 @@ use Rattle.sat_lits.specs.Literals.{variable_of}
 use Rattle.sat_lits.specs.Steps.{numbered, named}
 use Rattle.sat_lits.proofs.Numbered.{numbered-append, numbered-last, numbered-push, slice_get-push}
 use Rattle.proof_log.specs.declared.log.Line.{Line}
-use Rattle.proof_log.specs.Logged.{Logged, standing, standing_at}
-use Rattle.proof_log.proofs.StandingLemmas.{standing-push, standing_at-push, standing_at-now}
+use Rattle.proof_log.specs.Logged.{Logged, live_lines, live_lines_at}
+use Rattle.proof_log.proofs.LiveLemmas.{live_lines-push, live_lines_at-push, live_lines_at-now}
 use Rattle.sat_arena.specs.Newness.{IsNew}
 use Rattle.sat_arena.specs.Stored.{Stored}
-use Rattle.sat_arena.specs.Held.{clauses_of}
+use Rattle.sat_arena.specs.ArenaState.{clauses_of}
 use Rattle.sat_analyze.specs.Derived.{AreNamed, HasVariable}
 use Rattle.sat_search.specs.Solvers.{KeepsLog}
 use Rattle.sat_search.specs.Additions.{present, listed_at, Extends, AreNewFrom, HasVariables}
@@ -60,12 +60,12 @@ named_push_cases axioms lines line (Derived n) clause is = elim (numbered-push l
 ]
 
 -- the id of a stored clause names it
-pub id_names : (log : Logged) (stored : List Stored) (place : ℕ) (id : Id) → AreNamed log.axioms (standing log.lines) stored → place < length stored → id ≡ get_or (map (λ s. s.id) stored) place id → named log.axioms (standing log.lines) id ≡ Some (get_or (clauses_of stored) place [])
-id_names log [] place id names within is = absurd (omega arith)
+pub id_names : (log : Logged) (stored : List Stored) (position : ℕ) (id : Id) → AreNamed log.axioms (live_lines log.lines) stored → position < length stored → id ≡ get_or (map (λ s. s.id) stored) position id → named log.axioms (live_lines log.lines) id ≡ Some (get_or (clauses_of stored) position [])
+id_names log [] position id names within is = absurd (omega arith)
 id_names log (s ∷ ss) zero id names within is =
-    ap (named log.axioms (standing log.lines)) is ∙ All-head (λ (t : Stored). named log.axioms (standing log.lines) t.id ≡ Some t.clause) s ss names
-id_names log (s ∷ ss) (suc place) id names within is =
-    id_names log ss place id (All-tail (λ (t : Stored). named log.axioms (standing log.lines) t.id ≡ Some t.clause) s ss names) (omega arith) is
+    ap (named log.axioms (live_lines log.lines)) is ∙ All-head (λ (t : Stored). named log.axioms (live_lines log.lines) t.id ≡ Some t.clause) s ss names
+id_names log (s ∷ ss) (suc position) id names within is =
+    id_names log ss position id (All-tail (λ (t : Stored). named log.axioms (live_lines log.lines) t.id ≡ Some t.clause) s ss names) (omega arith) is
 
 variable_in_axioms : (axioms clauses : List (List ℕ)) (v : ℕ) → All (λ clause. All (λ l. HasVariable axioms (variable_of l)) clause) clauses → HasVariable clauses v → HasVariable axioms v
 variable_in_axioms axioms clauses v all has =
@@ -75,18 +75,18 @@ variable_in_axioms axioms clauses v all has =
 
 pub KeepsLog-record : (log : Logged) (stored : List Stored) (clause : List ℕ) (hints : List Id) (id : Id) → KeepsLog log stored → All (λ l. HasVariable (clauses_of stored) (variable_of l)) clause → id ≡ Derived (length log.lines + 1) → KeepsLog (with_line log clause hints) (stored ++ record { clause = clause; id = id } ∷ [])
 KeepsLog-record log stored clause hints id keeps variables id_is =
-    let more : standing (log.lines ++ line_of clause hints ∷ []) ≡ standing log.lines ++ Some clause ∷ [] = standing-push log.lines (line_of clause hints) in
+    let more : live_lines (log.lines ++ line_of clause hints ∷ []) ≡ live_lines log.lines ++ Some clause ∷ [] = live_lines-push log.lines (line_of clause hints) in
     let all : clauses_of (stored ++ record { clause = clause; id = id } ∷ []) ≡ clauses_of stored ++ clause ∷ [] = map-append (λ (s : Stored). s.clause) stored (record { clause = clause; id = id } ∷ []) in
-    let long : length (standing log.lines) ≡ length log.lines = length-map log.lines (λ line. Rattle.proof_log.specs.Logged.unless_retired line.retired line.clause) in
+    let long : length (live_lines log.lines) ≡ length log.lines = length-map log.lines (λ line. Rattle.proof_log.specs.Logged.unless_retired line.retired line.clause) in
     record {
       names = subst (λ (lines : List (Option (List ℕ))). AreNamed log.axioms lines (stored ++ record { clause = clause; id = id } ∷ [])) (sym more)
-          (All-push (λ (s : Stored). named log.axioms (standing log.lines ++ Some clause ∷ []) s.id ≡ Some s.clause) stored (record { clause = clause; id = id })
-          (All-weaker (λ (s : Stored). named log.axioms (standing log.lines) s.id ≡ Some s.clause) (λ (s : Stored). named log.axioms (standing log.lines ++ Some clause ∷ []) s.id ≡ Some s.clause)
-          (λ s is. named_push log.axioms (standing log.lines) (Some clause) s.id s.clause is) stored keeps.names)
-          (subst (λ (i : Id). named log.axioms (standing log.lines ++ Some clause ∷ []) i ≡ Some clause) (sym (id_is ∙ ap (λ n. Derived (n + 1)) (sym long)))
-          (derived_named log.axioms (standing log.lines ++ Some clause ∷ []) (length (standing log.lines) + 1) clause (numbered-last (standing log.lines) (Some clause)))));
+          (All-push (λ (s : Stored). named log.axioms (live_lines log.lines ++ Some clause ∷ []) s.id ≡ Some s.clause) stored (record { clause = clause; id = id })
+          (All-weaker (λ (s : Stored). named log.axioms (live_lines log.lines) s.id ≡ Some s.clause) (λ (s : Stored). named log.axioms (live_lines log.lines ++ Some clause ∷ []) s.id ≡ Some s.clause)
+          (λ s is. named_push log.axioms (live_lines log.lines) (Some clause) s.id s.clause is) stored keeps.names)
+          (subst (λ (i : Id). named log.axioms (live_lines log.lines ++ Some clause ∷ []) i ≡ Some clause) (sym (id_is ∙ ap (λ n. Derived (n + 1)) (sym long)))
+          (derived_named log.axioms (live_lines log.lines ++ Some clause ∷ []) (length (live_lines log.lines) + 1) clause (numbered-last (live_lines log.lines) (Some clause)))));
       listed = λ other c is. subst (λ (cs : List (List ℕ)). Contains cs c) (sym all)
-          (elim (named_push_cases log.axioms (standing log.lines) clause other c (subst (λ (lines : List (Option (List ℕ))). named log.axioms lines other ≡ Some c) more is)) [
+          (elim (named_push_cases log.axioms (live_lines log.lines) clause other c (subst (λ (lines : List (Option (List ℕ))). named log.axioms lines other ≡ Some c) more is)) [
             | inl before ↦ Contains-append_left (clauses_of stored) (clause ∷ []) c (keeps.listed other c before)
             | inr same ↦ subst (λ (x : List ℕ). Contains (clauses_of stored ++ clause ∷ []) x) same (Contains-push (clauses_of stored) clause)
           ]);
@@ -112,21 +112,21 @@ numbered_cons y lines (suc i) x is = is
 -- a clause that is present has a number
 pub present_named : (lines : List (Option (List ℕ))) (clause : List ℕ) → Contains (present lines) clause → (n : ℕ) × (numbered lines n ≡ Some (Some clause))
 present_named [] clause holds = absurd (omega (arith, holds.1))
-present_named (None ∷ lines) clause holds = let rest = present_named lines clause holds in (suc rest.0, numbered_cons None lines rest.0 (Some clause) rest.1)
+present_named (None ∷ lines) clause holds = let suffix = present_named lines clause holds in (suc suffix.0, numbered_cons None lines suffix.0 (Some clause) suffix.1)
 present_named (Some c ∷ lines) clause (zero, within, is) = (1, ap (λ (x : List ℕ). Some (Some x)) is)
 present_named (Some c ∷ lines) clause (suc k, within, is) =
-    let rest = present_named lines clause (k, omega (arith, within), is) in (suc rest.0, numbered_cons (Some c) lines rest.0 (Some clause) rest.1)
+    let suffix = present_named lines clause (k, omega (arith, within), is) in (suc suffix.0, numbered_cons (Some c) lines suffix.0 (Some clause) suffix.1)
 
 pub axiom_named : (axioms : List (List ℕ)) (lines : List (Option (List ℕ))) (clause : List ℕ) → Contains axioms clause → (id : Id) × (named axioms lines id ≡ Some clause)
 axiom_named axioms lines clause holds = (Axiom (suc holds.0), slice_get_at axioms holds.0 clause holds.1 holds.2)
 
 -- each clause that was listed when the log had all its lines has a name
-pub listed_has_name : (log : Logged) → ((i count : ℕ) (line : Line) → slice_get log.lines i ≡ Some line → line.retired ≡ Some count → count ≤ length log.lines) → (clause : List ℕ) → Contains (listed_at (length log.lines) log) clause → (id : Id) × (named log.axioms (standing log.lines) id ≡ Some clause)
-listed_has_name log retired clause holds = elim (Contains-append_cases log.axioms (present (standing_at (length log.lines) log.lines)) clause holds) [
-  | inl axiom_there ↦ axiom_named log.axioms (standing log.lines) clause axiom_there
+pub listed_has_name : (log : Logged) → ((i count : ℕ) (line : Line) → slice_get log.lines i ≡ Some line → line.retired ≡ Some count → count ≤ length log.lines) → (clause : List ℕ) → Contains (listed_at (length log.lines) log) clause → (id : Id) × (named log.axioms (live_lines log.lines) id ≡ Some clause)
+listed_has_name log retired clause holds = elim (Contains-append_cases log.axioms (present (live_lines_at (length log.lines) log.lines)) clause holds) [
+  | inl axiom_there ↦ axiom_named log.axioms (live_lines log.lines) clause axiom_there
   | inr line_there ↦
-      let at = present_named (standing log.lines) clause (subst (λ (lines : List (Option (List ℕ))). Contains (present lines) clause) (standing_at-now log.lines retired) line_there) in
-      (Derived at.0, derived_named log.axioms (standing log.lines) at.0 clause at.1)
+      let at = present_named (live_lines log.lines) clause (subst (λ (lines : List (Option (List ℕ))). Contains (present lines) clause) (live_lines_at-now log.lines retired) line_there) in
+      (Derived at.0, derived_named log.axioms (live_lines log.lines) at.0 clause at.1)
 ]
 
 -- so it is stored
@@ -147,7 +147,7 @@ Extends-record old log clause hints extends = record {
 
 -- what was listed before a line stays so
 pub listed_at-record : (log : Logged) (clause : List ℕ) (hints : List Id) (i : ℕ) → i ≤ length log.lines → listed_at i (with_line log clause hints) ≡ listed_at i log
-listed_at-record log clause hints i within = ap (λ (lines : List (Option (List ℕ))). log.axioms ++ present lines) (standing_at-push log.lines (line_of clause hints ∷ []) i within)
+listed_at-record log clause hints i within = ap (λ (lines : List (Option (List ℕ))). log.axioms ++ present lines) (live_lines_at-push log.lines (line_of clause hints ∷ []) i within)
 
 pub AreNewFrom-record : (start : ℕ) (log : Logged) (clause : List ℕ) (hints : List Id) → AreNewFrom start log → IsNew (listed_at (length log.lines) log) clause → AreNewFrom start (with_line log clause hints)
 AreNewFrom-record start log clause hints old new i line from is = elim (slice_get-push log.lines (line_of clause hints) line i is) [

@@ -5,42 +5,43 @@ use Rattle.std.proofs.lemmas.Bool.{both_ways}
 use Rattle.std.proofs.lemmas.List.Elements.{All-contains, All-get_or}
 use Rattle.sat_lits.specs.Literals.{negation}
 use Rattle.sat_arena.specs.declared.trail.Assigned.{Assigned}
-use Rattle.sat_arena.specs.Trailed.{Trailed}
-use Rattle.sat_arena.specs.Held.{Held, clauses_of, AreGrown}
+use Rattle.sat_arena.specs.PropagatorState.{PropagatorState}
+use Rattle.sat_arena.specs.Stored.{Stored}
+use Rattle.sat_arena.specs.ArenaState.{clauses_of, AreGrown}
 use Rattle.sat_arena.specs.Settled.{IsSettled}
-use Rattle.sat_arena.specs.Trails.{told, up_to, IsOrderly}
+use Rattle.sat_arena.specs.Trails.{true_in, up_to, IsOrderly}
 use Rattle.sat_arena.specs.Deduced.{Deduces, nothing, one_more, IsConflict}
-use Rattle.sat_arena.specs.Justified.{newest}
+use Rattle.sat_arena.specs.Justified.{current_level}
 use Rattle.sat_arena.proofs.LevelLemmas.{up_to-all, IsOrderly-up_to}
 use Rattle.sat_arena.proofs.TrailLemmas.{consistent}
-use Rattle.sat_arena.proofs.JustifiedLemmas.{IsJustified-decided, IsJustified-deduced, IsJustified-back, in_push, in_front, up_to-is_front}
+use Rattle.sat_arena.proofs.JustifiedLemmas.{IsJustified-decided, IsJustified-deduced, IsJustified-back, in_push, in_prefix, up_to-is_prefix}
 use Rattle.sat_analyze.specs.Learnt.{IsNewlyFalse}
-use Rattle.sat_search.specs.Solvers.{IsReady, IsSolver}
+use Rattle.sat_search.specs.Solvers.{KeepsLog, IsReady, IsSolver}
 use Rattle.sat_search.specs.Assumed.{AllTrue, AssumesFirst}
 use Rattle.sat_search.specs.declared.solver.Solver.{Solver}
-use Rattle.sat_search.proofs.LevelLaws.{newest-push, newest_is_greatest, newest_has_begun, newest-deduced, IsSettledBelow-next, IsSettledBelow-push, IsSettledBelow-deduced, IsSettledBelow-back, up_to_is_low}
-use Rattle.sat_search.specs.Levels.{IsSettledBelow}
-use Rattle.sat_search.proofs.ToldLemmas.{told_or_later, told_from_up_to}
+use Rattle.sat_arena.proofs.LevelLaws.{current_level-push, current_level_is_greatest, current_level_has_begun, current_level-deduced, IsSettledBelow-next, IsSettledBelow-push, IsSettledBelow-deduced, IsSettledBelow-back, up_to_is_low}
+use Rattle.sat_arena.specs.Levels.{IsSettledBelow}
+use Rattle.sat_arena.proofs.TrueInLemmas.{true_in_or_later, true_in_from_up_to}
 
 -- ---- The trail
 
-pub IsReady-deduced : (clauses : List (List ℕ)) (before after : List Assigned) (vars : ℕ) → IsReady clauses before vars → Deduces clauses (newest before) before after → IsOrderly after vars → IsReady clauses after vars
+pub IsReady-deduced : (clauses : List (List ℕ)) (before after : List Assigned) (vars : ℕ) → IsReady clauses before vars → Deduces clauses (current_level before) before after → IsOrderly after vars → IsReady clauses after vars
 IsReady-deduced clauses before after vars ready deduced orderly = record {
   orderly = orderly;
-  justified = (IsJustified-deduced clauses (newest before) before after deduced (newest_has_begun before) ready.justified).0;
-  settled = subst (λ (level : ℕ). IsSettledBelow level after clauses) (sym (newest-deduced clauses (newest before) before after deduced refl))
-      (IsSettledBelow-deduced (newest before) clauses before after deduced ready.settled);
+  justified = (IsJustified-deduced clauses (current_level before) before after deduced (current_level_has_begun before) ready.justified).0;
+  settled = subst (λ (level : ℕ). IsSettledBelow level after clauses) (sym (current_level-deduced clauses (current_level before) before after deduced refl))
+      (IsSettledBelow-deduced (current_level before) clauses before after deduced ready.settled);
 }
 
-pub IsReady-decided : (clauses : List (List ℕ)) (entries : List Assigned) (entry : Assigned) (vars : ℕ) → IsReady clauses entries vars → All (IsSettled (told entries)) clauses → entry.level ≡ newest entries + 1 → entry.reason ≡ None → IsOrderly (entries ++ entry ∷ []) vars → IsReady clauses (entries ++ entry ∷ []) vars
+pub IsReady-decided : (clauses : List (List ℕ)) (entries : List Assigned) (entry : Assigned) (vars : ℕ) → IsReady clauses entries vars → All (IsSettled (true_in entries)) clauses → entry.level ≡ current_level entries + 1 → entry.reason ≡ None → IsOrderly (entries ++ entry ∷ []) vars → IsReady clauses (entries ++ entry ∷ []) vars
 IsReady-decided clauses entries entry vars ready settled level none orderly =
-    let low = newest_is_greatest entries ready.orderly.rising in
+    let low = current_level_is_greatest entries ready.orderly.rising in
     record {
       orderly = orderly;
-      justified = IsJustified-decided clauses entries entry ready.justified none (omega arith) (λ i d h. (let e : (get_or entries i d).level ≤ newest entries = low i d h in omega arith));
-      settled = subst (λ (n : ℕ). IsSettledBelow n (entries ++ entry ∷ []) clauses) (sym (newest-push entries entry ∙ level))
-          (IsSettledBelow-push (newest entries + 1) entries clauses entry (omega arith)
-          (IsSettledBelow-next (newest entries) entries clauses (up_to-all (newest entries) entries low) ready.settled settled));
+      justified = IsJustified-decided clauses entries entry ready.justified none (omega arith) (λ i d h. (let e : (get_or entries i d).level ≤ current_level entries = low i d h in omega arith));
+      settled = subst (λ (n : ℕ). IsSettledBelow n (entries ++ entry ∷ []) clauses) (sym (current_level-push entries entry ∙ level))
+          (IsSettledBelow-push (current_level entries + 1) entries clauses entry (omega arith)
+          (IsSettledBelow-next (current_level entries) entries clauses (up_to-all (current_level entries) entries low) ready.settled settled));
     }
 
 pub IsReady-back : (clauses : List (List ℕ)) (entries : List Assigned) (vars level : ℕ) → IsReady clauses entries vars → IsReady clauses (up_to level entries) vars
@@ -50,26 +51,26 @@ IsReady-back clauses entries vars level ready = record {
   settled = IsSettledBelow-back level entries clauses ready.orderly.rising ready.settled;
 }
 
--- a clause that propagation made false has a literal that became false at the newest level
-pub newly_false : (clauses : List (List ℕ)) (entries : List Assigned) (vars place : ℕ) → IsReady clauses entries vars → IsConflict clauses entries place → 0 < newest entries → IsNewlyFalse entries (get_or clauses place [])
-newly_false clauses entries vars place ready conflict above =
-    let clause = get_or clauses place [] in
-    let k = newest entries - 1 in
-    let lower = told (up_to k entries) in
-    let false_now : (l : ℕ) → Contains clause l → told entries (negation l) ≡ true = λ l holds. All-contains (λ l. told entries (negation l) ≡ true) clause l conflict.1 holds in
-    let was : IsSettled lower clause = All-get_or (IsSettled lower) clauses place [] conflict.0 (ready.settled k (omega arith)) in
+-- a clause that propagation made false has a literal that became false at the current_level level
+pub newly_false : (clauses : List (List ℕ)) (entries : List Assigned) (vars position : ℕ) → IsReady clauses entries vars → IsConflict clauses entries position → 0 < current_level entries → IsNewlyFalse entries (get_or clauses position [])
+newly_false clauses entries vars position ready conflict above =
+    let clause = get_or clauses position [] in
+    let k = current_level entries - 1 in
+    let lower = true_in (up_to k entries) in
+    let false_now : (l : ℕ) → Contains clause l → true_in entries (negation l) ≡ true = λ l holds. All-contains (λ l. true_in entries (negation l) ≡ true) clause l conflict.1 holds in
+    let was : IsSettled lower clause = All-get_or (IsSettled lower) clauses position [] conflict.0 (ready.settled k (omega arith)) in
     elim was [
-      | inl has ↦ absurd (consistent entries vars ready.orderly has.literal (told_from_up_to k entries has.literal has.is_true) (false_now has.literal has.holds))
-      | inr two ↦ elim (told_or_later k entries (negation two.first) (false_now two.first two.holds_first)) [
+      | inl has ↦ absurd (consistent entries vars ready.orderly has.literal (true_in_from_up_to k entries has.literal has.is_true) (false_now has.literal has.holds))
+      | inr two ↦ elim (true_in_or_later k entries (negation two.first) (false_now two.first two.holds_first)) [
         | inl before ↦ absurd (both_ways (lower (negation two.first)) two.first_open before)
         | inr later ↦ record {
           literal = two.first;
           holds = two.holds_first;
-          at_newest = record {
+          at_current = record {
             entry = later.0;
             stands = later.1;
             of_literal = later.2;
-            at_level = (let low : later.0.level ≤ newest entries = All-contains (λ (e : Assigned). e.level ≤ newest entries) entries later.0 (newest_is_greatest entries ready.orderly.rising) later.1 in omega (arith, later.3));
+            at_level = (let low : later.0.level ≤ current_level entries = All-contains (λ (e : Assigned). e.level ≤ current_level entries) entries later.0 (current_level_is_greatest entries ready.orderly.rising) later.1 in omega (arith, later.3));
           };
         }
       ]
@@ -77,33 +78,34 @@ newly_false clauses entries vars place ready conflict above =
 
 -- ---- The parts of a solver
 
-pub IsSolver-moved : (solver : Solver) (arena : Held) (trail : Trailed) (order : ℕ) → IsSolver solver → arena ≡ solver.arena → order ≡ solver.order → trail.vars ≡ solver.trail.vars → IsReady (clauses_of solver.arena.stored) trail.entries solver.trail.vars → IsSolver (record { log = solver.log; arena = arena; trail = trail; order = order })
-IsSolver-moved solver arena trail order old arena_is order_is vars_is ready =
-    subst (λ (a : Held). IsSolver (record { log = solver.log; arena = a; trail = trail; order = order })) (sym arena_is) (record {
-      keeps = old.keeps;
-      ready = subst (λ (n : ℕ). IsReady (clauses_of solver.arena.stored) trail.entries n) (sym vars_is) ready;
-      arena_vars = old.arena_vars ∙ sym vars_is;
-      order_vars = order_is ∙ old.order_vars ∙ sym vars_is;
-      grown = subst (λ (n : ℕ). AreGrown n (clauses_of solver.arena.stored)) (sym vars_is) old.grown;
-    })
+-- another trail over the same clauses
+pub IsSolver-moved : (solver : Solver) (propagator : PropagatorState) (order : ℕ) → IsSolver solver → order ≡ solver.order → propagator.stored ≡ solver.propagator.stored → propagator.vars ≡ solver.propagator.vars → IsReady (clauses_of solver.propagator.stored) propagator.entries solver.propagator.vars → IsSolver (record { log = solver.log; propagator = propagator; order = order })
+IsSolver-moved solver propagator order old order_is stored_is vars_is ready = record {
+  keeps = subst (λ (stored : List Stored). KeepsLog solver.log stored) (sym stored_is) old.keeps;
+  ready = subst (λ (stored : List Stored). IsReady (clauses_of stored) propagator.entries propagator.vars) (sym stored_is)
+      (subst (λ (n : ℕ). IsReady (clauses_of solver.propagator.stored) propagator.entries n) (sym vars_is) ready);
+  order_vars = order_is ∙ old.order_vars ∙ sym vars_is;
+  grown = subst (λ (stored : List Stored). AreGrown propagator.vars (clauses_of stored)) (sym stored_is)
+      (subst (λ (n : ℕ). AreGrown n (clauses_of solver.propagator.stored)) (sym vars_is) old.grown);
+}
 
-pub IsSolver-decided : (solver : Solver) (trail : Trailed) (entry : Assigned) → IsSolver solver → All (IsSettled (told solver.trail.entries)) (clauses_of solver.arena.stored) → entry.level ≡ newest solver.trail.entries + 1 → entry.reason ≡ None → trail ≡ record solver.trail { entries = solver.trail.entries ++ entry ∷ [] } → IsOrderly trail.entries trail.vars → IsSolver (record { log = solver.log; arena = solver.arena; trail = trail; order = solver.order })
-IsSolver-decided solver trail entry old settled level none is orderly =
-    subst (λ (t : Trailed). IsOrderly t.entries t.vars → IsSolver (record { log = solver.log; arena = solver.arena; trail = t; order = solver.order })) (sym is)
-    (λ in_order. IsSolver-moved solver solver.arena (record solver.trail { entries = solver.trail.entries ++ entry ∷ [] }) solver.order old refl refl refl
-    (IsReady-decided (clauses_of solver.arena.stored) solver.trail.entries entry solver.trail.vars old.ready settled level none in_order)) orderly
+pub IsSolver-decided : (solver : Solver) (propagator : PropagatorState) (entry : Assigned) → IsSolver solver → All (IsSettled (true_in solver.propagator.entries)) (clauses_of solver.propagator.stored) → entry.level ≡ current_level solver.propagator.entries + 1 → entry.reason ≡ None → propagator ≡ record solver.propagator { entries = solver.propagator.entries ++ entry ∷ [] } → IsOrderly propagator.entries propagator.vars → IsSolver (record { log = solver.log; propagator = propagator; order = solver.order })
+IsSolver-decided solver propagator entry old settled level none is orderly =
+    subst (λ (p : PropagatorState). IsOrderly p.entries p.vars → IsSolver (record { log = solver.log; propagator = p; order = solver.order })) (sym is)
+    (λ in_order. IsSolver-moved solver (record solver.propagator { entries = solver.propagator.entries ++ entry ∷ [] }) solver.order old refl refl refl
+    (IsReady-decided (clauses_of solver.propagator.stored) solver.propagator.entries entry solver.propagator.vars old.ready settled level none in_order)) orderly
 
-pub IsSolver-deduced : (solver : Solver) (arena : Held) (trail : Trailed) → IsSolver solver → arena ≡ solver.arena → trail.vars ≡ solver.trail.vars → Deduces (clauses_of solver.arena.stored) (newest solver.trail.entries) solver.trail.entries trail.entries → IsOrderly trail.entries trail.vars → IsSolver (record { log = solver.log; arena = arena; trail = trail; order = solver.order })
-IsSolver-deduced solver arena trail old arena_is vars_is deduced orderly =
-    IsSolver-moved solver arena trail solver.order old arena_is refl vars_is
-    (IsReady-deduced (clauses_of solver.arena.stored) solver.trail.entries trail.entries solver.trail.vars old.ready deduced
-    (subst (λ (n : ℕ). IsOrderly trail.entries n) vars_is orderly))
+pub IsSolver-deduced : (solver : Solver) (propagator : PropagatorState) → IsSolver solver → propagator.stored ≡ solver.propagator.stored → propagator.vars ≡ solver.propagator.vars → Deduces (clauses_of solver.propagator.stored) (current_level solver.propagator.entries) solver.propagator.entries propagator.entries → IsOrderly propagator.entries propagator.vars → IsSolver (record { log = solver.log; propagator = propagator; order = solver.order })
+IsSolver-deduced solver propagator old stored_is vars_is deduced orderly =
+    IsSolver-moved solver propagator solver.order old refl stored_is vars_is
+    (IsReady-deduced (clauses_of solver.propagator.stored) solver.propagator.entries propagator.entries solver.propagator.vars old.ready deduced
+    (subst (λ (n : ℕ). IsOrderly propagator.entries n) vars_is orderly))
 
-pub IsSolver-back : (solver : Solver) (trail : Trailed) (order level : ℕ) → IsSolver solver → order ≡ solver.order → trail ≡ record solver.trail { entries = up_to level solver.trail.entries } → IsSolver (record { log = solver.log; arena = solver.arena; trail = trail; order = order })
-IsSolver-back solver trail order level old order_is is =
-    subst (λ (t : Trailed). IsSolver (record { log = solver.log; arena = solver.arena; trail = t; order = order })) (sym is)
-    (IsSolver-moved solver solver.arena (record solver.trail { entries = up_to level solver.trail.entries }) order old refl order_is refl
-    (IsReady-back (clauses_of solver.arena.stored) solver.trail.entries solver.trail.vars level old.ready))
+pub IsSolver-back : (solver : Solver) (propagator : PropagatorState) (order level head : ℕ) → IsSolver solver → order ≡ solver.order → propagator ≡ record solver.propagator { entries = up_to level solver.propagator.entries; head = head } → IsSolver (record { log = solver.log; propagator = propagator; order = order })
+IsSolver-back solver propagator order level head old order_is is =
+    subst (λ (p : PropagatorState). IsSolver (record { log = solver.log; propagator = p; order = order })) (sym is)
+    (IsSolver-moved solver (record solver.propagator { entries = up_to level solver.propagator.entries; head = head }) order old order_is refl refl
+    (IsReady-back (clauses_of solver.propagator.stored) solver.propagator.entries solver.propagator.vars level old.ready))
 
 -- ---- Assumptions before other decisions
 
@@ -118,16 +120,16 @@ AssumesFirst-push assumptions entries new old now = record {
 
 pub AssumesFirst-deduced : (assumptions : List ℕ) (clauses : List (List ℕ)) (level : ℕ) (before after : List Assigned) → Deduces clauses level before after → AssumesFirst assumptions before → AssumesFirst assumptions after
 AssumesFirst-deduced assumptions clauses level before after nothing first = first
-AssumesFirst-deduced assumptions clauses level before after (one_more entries entry place deduced at reason within forces) first =
+AssumesFirst-deduced assumptions clauses level before after (one_more entries entry position deduced at reason within forces) first =
     AssumesFirst-push assumptions entries entry (AssumesFirst-deduced assumptions clauses level before entries deduced first)
-    (λ none. absurd (let e : None ≡ Some place = sym none ∙ reason in cc))
+    (λ none. absurd (let e : None ≡ Some position = sym none ∙ reason in cc))
 
 pub AssumesFirst-back : (assumptions : List ℕ) (clauses : List (List ℕ)) (entries : List Assigned) (vars level : ℕ) → IsReady clauses entries vars → AssumesFirst assumptions entries → AssumesFirst assumptions (up_to level entries)
 AssumesFirst-back assumptions clauses entries vars level ready old =
-    let front = up_to-is_front level entries ready.orderly.rising in
-    subst (AssumesFirst assumptions) (sym front.1) (record {
+    let prefix = up_to-is_prefix level entries ready.orderly.rising in
+    subst (AssumesFirst assumptions) (sym prefix.1) (record {
       first = λ i entry at none.
-          let before = in_front entries front.0 i entry at in
+          let before = in_prefix entries prefix.0 i entry at in
           subst (λ (es : List Assigned). Contains assumptions entry.lit ⊎ AllTrue assumptions es) (sym before.1) (old.first i entry before.0 none);
     })
 

@@ -2,7 +2,7 @@
 use Rattle.std.specs.Prelude.{◌≡◌, ℕ, ◌≤◌, List, [], ◌∷◌, ◌++◌, Option, Some, None, slice_get, All, Contains}
 use Rattle.sat_lits.specs.Literals.{variable_of}
 use Rattle.proof_log.specs.declared.log.Line.{Line}
-use Rattle.proof_log.specs.Logged.{Logged, standing_at}
+use Rattle.proof_log.specs.Logged.{Logged, live_lines_at}
 use Rattle.sat_arena.specs.Newness.{IsNew}
 use Rattle.sat_analyze.specs.Derived.{HasVariable}
 
@@ -14,17 +14,19 @@ present (None ∷ lines) = present lines
 
 -- the axioms, and the lines that stood when the log had so many
 abbrev pub listed_at : ℕ → Logged → List (List ℕ)
-listed_at count log = log.axioms ++ present (standing_at count log.lines)
+listed_at count log = log.axioms ++ present (live_lines_at count log.lines)
 
--- no listed clause is a part of the clause
-abbrev pub HasNoPart : List (List ℕ) → List ℕ → Type 0
-HasNoPart listed clause = (part : List ℕ) → Contains listed part → All (Contains clause) part → ⊥
+-- no listed clause is a subsumer of the clause
+abbrev pub NoneSubsumes : List (List ℕ) → List ℕ → Type 0
+NoneSubsumes listed clause = (subsumer : List ℕ) → Contains listed subsumer
+    → All (Contains clause) subsumer → ⊥
 
--- each line from this place on is new to propagation over the axioms and the lines that stood before it
+-- each line from this position on is new to propagation over the axioms and the lines that stood before it
 abbrev pub AreNewFrom : ℕ → Logged → Type 0
-AreNewFrom start log = (i : ℕ) (line : Line) → start ≤ i → slice_get log.lines i ≡ Some line → IsNew (listed_at i log) line.clause
+AreNewFrom start log = (i : ℕ) (line : Line) → start ≤ i → slice_get log.lines i ≡ Some line
+    → IsNew (listed_at i log) line.clause
 
--- the log has the same axioms, and more lines behind the old ones
+-- the log has the same axioms, and more lines after the old ones
 pub record Extends (old new : Logged) : Type 0 where
   pub axioms : new.axioms ≡ old.axioms
   pub more : List Line
@@ -32,4 +34,5 @@ pub record Extends (old new : Logged) : Type 0 where
 
 -- each variable of a line stands in an axiom
 abbrev pub HasVariables : Logged → Type 0
-HasVariables log = (i : ℕ) (line : Line) → slice_get log.lines i ≡ Some line → All (λ l. HasVariable log.axioms (variable_of l)) line.clause
+HasVariables log = (i : ℕ) (line : Line) → slice_get log.lines i ≡ Some line
+    → All (λ l. HasVariable log.axioms (variable_of l)) line.clause

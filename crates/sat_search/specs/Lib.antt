@@ -1,10 +1,9 @@
 pub mod Clashes
 pub mod Orders
-pub mod Levels
 pub mod Additions
 pub mod Assumed
 pub mod Solvers
-pub mod Descents
+pub mod LoopEnds
 pub mod Endings
 pub mod Sessions
 pub mod Founds

@@ -11,17 +11,18 @@ pub record IsOpen (known : ℕ → Bool) (vars : ℕ) (lit : ℕ) : Type 0 where
 
 -- each of the variables is true or false
 abbrev pub AllAssigned : ℕ → (ℕ → Bool) → Type 0
-AllAssigned vars known = (var : ℕ) → 1 ≤ var → var ≤ vars → (known (literal var true) ≡ true) ⊎ (known (literal var false) ≡ true)
+AllAssigned vars known = (var : ℕ) → 1 ≤ var → var ≤ vars → (known (literal var true) ≡ true)
+    ⊎ (known (literal var false) ≡ true)
 
 -- every number is one of a row, of so many
 abbrev pub AreRows : ℕ → List ℕ → Type 0
 AreRows rows numbers = All (λ row. row < rows) numbers
 
 -- each table of an order has a row for each variable, and its heap holds rows alone
-pub record IsOrder (slots places activities : List ℕ) (phases : List Bool) (count vars : ℕ) : Type 0 where
+pub record IsOrder (slots positions activities : List ℕ) (phases : List Bool) (count vars : ℕ) : Type 0 where
   pub small : vars < 2 ^ 30
   pub slots_room : length slots ≡ vars
-  pub places_room : vars ≤ length places
+  pub positions_room : vars ≤ length positions
   pub activities_room : vars ≤ length activities
   pub phases_room : vars ≤ length phases
   pub filled : count ≤ length slots

@@ -9,5 +9,5 @@ pub record IsSession (solver : Solver) (axioms vars : ℕ) (ended : Bool) : Type
   pub variables : HasVariables solver.log
   pub solves : ended ≡ false → IsSolver solver
   pub axioms_are : ended ≡ false → axioms ≡ length solver.log.axioms
-  pub vars_are : ended ≡ false → vars ≡ solver.trail.vars
+  pub vars_are : ended ≡ false → vars ≡ solver.propagator.vars
   pub small : vars < 2 ^ 30

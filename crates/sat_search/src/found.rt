@@ -2,7 +2,7 @@
 ghost use Rattle.std.specs.Prelude.{◌≡◌, ℕ, ◌≤◌, ◌<◌, ◌^◌, All, Some, None, IfOk, OnOk, OnErr, true};
 ghost use Rattle.std.specs.Option.{option_map};
 ghost use Rattle.sat_lits.specs.Literals.{literal};
-ghost use Rattle.sat_arena.specs.Trails.{told, marked, IsGrown};
+ghost use Rattle.sat_arena.specs.Trails.{true_in, marked, IsGrown};
 ghost use Rattle.sat_search.specs.Clashes.{HasClash};
 ghost use Rattle.sat_search.specs.Solvers.{IsSolver};
 ghost use Rattle.sat_search.specs.Additions.{HasVariables};
@@ -10,7 +10,7 @@ ghost use Rattle.sat_search.specs.Sessions.{AddsLines};
 ghost use Rattle.sat_search.specs.Founds.{HasValues, IsFound};
 
 use crate::answer::Answer;
-use crate::denial::flags_of;
+use crate::cores::literal_set_of;
 use crate::solver::Solver;
 use sat_arena::Trail;
 use sat_lits::Lit;
@@ -35,19 +35,19 @@ impl Solver {
     ) -> Result<Found, NoMemory>
         requires solver { IsSolver self.old }
         requires variables { HasVariables self.old.log }
-        requires vars { vars ≡ self.old.trail.vars }
+        requires vars { vars ≡ self.old.propagator.vars }
         requires small { vars < 2 ^ 30 }
         requires grown { All (IsGrown vars) assumptions.now }
         requires no_clash { HasClash assumptions.now → ⊥ }
-        ensures vars { self.new.trail.vars ≡ self.old.trail.vars }
+        ensures vars { self.new.propagator.vars ≡ self.old.propagator.vars }
         ensures solver { OnOk result (IsSolver self.new) }
         ensures variables { HasVariables self.new.log }
         ensures ok { IfOk result (IsFound assumptions.now self.old.log self.new.log most) }
         ensures err { OnErr result (AddsLines assumptions.now self.old.log self.new.log most None) }
     {
-        let flags = flags_of(alloc, assumptions, vars)?;
-        let answer = self.run(alloc, assumptions, &flags, most)?;
-        with_values(alloc, &self.trail, vars, answer)
+        let literal_set = literal_set_of(alloc, assumptions, vars)?;
+        let answer = self.run(alloc, assumptions, &literal_set, most)?;
+        with_values(alloc, self.propagator.trail(), vars, answer)
     }
 }
 
@@ -57,7 +57,9 @@ fn with_values(alloc: Global, trail: &Trail, vars: u32, answer: Answer) -> Resul
     requires small { vars < 2 ^ 30 }
     ensures answer { IfOk result (λ found. found.answer ≡ answer) }
     ensures cause { OnErr result (answer ≡ Answer.Model) }
-    ensures values { IfOk result (λ found. HasValues trail.now.entries vars answer (option_map (λ values. values.items) found.values)) }
+    ensures values { IfOk result
+        (λ found. HasValues trail.now.entries vars answer
+        (option_map (λ values. values.items) found.values)) }
 {
     let Answer::Model = answer else {
         return Ok(Found {
@@ -76,7 +78,8 @@ fn with_values(alloc: Global, trail: &Trail, vars: u32, answer: Answer) -> Resul
 fn values_of(alloc: Global, trail: &Trail, vars: u32) -> Result<Vec<bool>, NoMemory>
     requires vars { vars ≤ trail.now.vars }
     requires small { vars < 2 ^ 30 }
-    ensures { IfOk result (λ values. (var : ℕ) → 1 ≤ var → var ≤ vars → marked values.items var ≡ told trail.now.entries (literal var true)) }
+    ensures { IfOk result (λ values. (var : ℕ) → 1 ≤ var → var ≤ vars → marked values.items var
+        ≡ true_in trail.now.entries (literal var true)) }
 {
     let mut values = vec![in alloc; false; vars as usize + 1]?;
     for before in 0..vars {

@@ -1,42 +1,42 @@
 //! A binary heap of rows, the most active first, over lent tables.
 //!
-//! The first `count` of `slots` are the heap. `places` says for each row in which slot it stands: the
+//! The first `count` of `slots` are the heap. `positions` says for each row in which slot it stands: the
 //! row is in the heap where that slot is in use and holds it.
 ghost use Rattle.std.specs.Prelude.{ℕ, ◌≡◌, ◌+◌, ◌<◌, ◌≤◌, ◌/◌, length};
 ghost use Rattle.sat_search.specs.Orders.{AreRows};
 
 /// Takes the most active row from the heap of `count` rows and one more.
-pub fn take_first(slots: &mut [u32], places: &mut [u32], activities: &[u64], count: usize) -> u32
+pub fn take_first(slots: &mut [u32], positions: &mut [u32], activities: &[u64], count: usize) -> u32
     requires count { count < length slots.old }
-    requires places { AreRows (length places.old) slots.old }
+    requires positions { AreRows (length positions.old) slots.old }
     requires activities { AreRows (length activities.now) slots.old }
     ensures same { (rows : ℕ) → AreRows rows slots.old → AreRows rows slots.new }
     ensures row { (rows : ℕ) → AreRows rows slots.old → result < rows }
 {
     let row = slots[0];
-    exchange(slots, places, 0, count);
-    sift_down(slots, places, activities, count);
+    exchange(slots, positions, 0, count);
+    sift_down(slots, positions, activities, count);
     row
 }
 
-/// Puts the row into the slot behind the heap.
-pub fn put_last(slots: &mut [u32], places: &mut [u32], activities: &[u64], slot: usize, row: u32)
+/// Puts the row into the slot after the heap.
+pub fn put_last(slots: &mut [u32], positions: &mut [u32], activities: &[u64], slot: usize, row: u32)
     requires slot { slot < length slots.old }
-    requires places { AreRows (length places.old) slots.old }
+    requires positions { AreRows (length positions.old) slots.old }
     requires activities { AreRows (length activities.now) slots.old }
-    requires place { row < length places.old }
+    requires position { row < length positions.old }
     requires activity { row < length activities.now }
     ensures same { (rows : ℕ) → AreRows rows slots.old → row < rows → AreRows rows slots.new }
 {
     slots[slot] = row;
-    note(places, row, slot);
-    sift_up(slots, places, activities, slot);
+    note(positions, row, slot);
+    sift_up(slots, positions, activities, slot);
 }
 
 /// Brings the row in the slot up to where none above it is less active.
-pub fn sift_up(slots: &mut [u32], places: &mut [u32], activities: &[u64], slot: usize)
+pub fn sift_up(slots: &mut [u32], positions: &mut [u32], activities: &[u64], slot: usize)
     requires slot { slot < length slots.old }
-    requires places { AreRows (length places.old) slots.old }
+    requires positions { AreRows (length positions.old) slots.old }
     requires activities { AreRows (length activities.now) slots.old }
     ensures same { (rows : ℕ) → AreRows rows slots.old → AreRows rows slots.new }
 {
@@ -46,15 +46,15 @@ pub fn sift_up(slots: &mut [u32], places: &mut [u32], activities: &[u64], slot: 
         if !is_more_active(slots, activities, at, above) {
             return;
         }
-        exchange(slots, places, at, above);
+        exchange(slots, positions, at, above);
         at = above;
     }
 }
 
 /// Brings the row in the first slot down to where none below it is more active.
-fn sift_down(slots: &mut [u32], places: &mut [u32], activities: &[u64], count: usize)
+fn sift_down(slots: &mut [u32], positions: &mut [u32], activities: &[u64], count: usize)
     requires count { count ≤ length slots.old }
-    requires places { AreRows (length places.old) slots.old }
+    requires positions { AreRows (length positions.old) slots.old }
     requires activities { AreRows (length activities.now) slots.old }
     ensures same { (rows : ℕ) → AreRows rows slots.old → AreRows rows slots.new }
 {
@@ -64,29 +64,29 @@ fn sift_down(slots: &mut [u32], places: &mut [u32], activities: &[u64], count: u
         if !is_more_active(slots, activities, below, at) {
             return;
         }
-        exchange(slots, places, below, at);
+        exchange(slots, positions, below, at);
         at = below;
     }
 }
 
 /// Exchanges the rows in two slots, and notes where they stand.
-fn exchange(slots: &mut [u32], places: &mut [u32], one: usize, other: usize)
+fn exchange(slots: &mut [u32], positions: &mut [u32], one: usize, other: usize)
     requires one { one < length slots.old }
     requires other { other < length slots.old }
-    requires places { AreRows (length places.old) slots.old }
+    requires positions { AreRows (length positions.old) slots.old }
     ensures same { (rows : ℕ) → AreRows rows slots.old → AreRows rows slots.new }
 {
     slots.swap(one, other);
-    note(places, slots[one], one);
-    note(places, slots[other], other);
+    note(positions, slots[one], one);
+    note(positions, slots[other], other);
 }
 
 /// Notes in which slot the row stands.
-fn note(places: &mut [u32], row: u32, slot: usize)
-    requires { row < length places.old }
+fn note(positions: &mut [u32], row: u32, slot: usize)
+    requires { row < length positions.old }
 {
     if slot < u32::MAX as usize {
-        places[row as usize] = slot as u32;
+        positions[row as usize] = slot as u32;
     }
 }
 

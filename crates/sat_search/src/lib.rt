@@ -1,11 +1,12 @@
 //! A search for values that satisfy clauses, which keeps a log of what it derives.
 #![tactic(auto)]
 
+mod analysis;
 mod answer;
 mod clashes;
 mod conclusion;
-mod denial;
-mod descent;
+mod cores;
+mod decide_loop;
 mod found;
 mod growth;
 mod heap;

@@ -1,7 +1,7 @@
 //! Which variable is decided next, and with which value.
 ghost use Rattle.std.specs.Prelude.{◌≡◌, ℕ, ◌+◌, ◌≤◌, ◌<◌, ◌^◌, All, length, max, IfSome, IfNone, IsTrue, OnOk, OnErr};
 ghost use Rattle.sat_lits.specs.Literals.{variable_of};
-ghost use Rattle.sat_arena.specs.Trails.{told, IsGrown};
+ghost use Rattle.sat_arena.specs.Trails.{true_in, IsGrown};
 ghost use Rattle.sat_search.specs.Orders.{IsOpen, AllAssigned};
 
 use crate::heap::{put_last, sift_up, take_first};
@@ -31,7 +31,7 @@ const SCALE: u32 = 30;
 pub struct Order {
     slots: Vec<u32>,
     count: usize,
-    places: Vec<u32>,
+    positions: Vec<u32>,
     activities: Vec<u64>,
     phases: Vec<bool>,
     step: u64,
@@ -46,7 +46,8 @@ impl Model for Order {
 
     ghost view = { λ o. o.vars };
 
-    ghost invariant = { λ o. IsOrder o.slots.items o.places.items o.activities.items o.phases.items o.count o.vars };
+    ghost invariant = { λ o. IsOrder o.slots.items o.positions.items o.activities.items
+        o.phases.items o.count o.vars };
 }
 
 impl Order {
@@ -57,7 +58,7 @@ impl Order {
         Order {
             slots: Vec::new(alloc),
             count: 0,
-            places: Vec::new(alloc),
+            positions: Vec::new(alloc),
             activities: Vec::new(alloc),
             phases: Vec::new(alloc),
             step: FIRST_STEP,
@@ -76,7 +77,7 @@ impl Order {
             return Ok(());
         }
         let rows = vars as usize;
-        self.places.resize(rows, 0)?;
+        self.positions.resize(rows, 0)?;
         self.activities.resize(rows, 0)?;
         self.phases.resize(rows, true)?;
         self.slots.resize(rows, 0)?;
@@ -93,8 +94,8 @@ impl Order {
     pub fn next(&mut self, trail: &Trail) -> Option<Lit>
         requires { self.old ≤ trail.now.vars }
         ensures same { self.new ≡ self.old }
-        ensures some { IfSome result (IsOpen (told trail.now.entries) self.old) }
-        ensures none { IfNone result (AllAssigned self.old (told trail.now.entries)) }
+        ensures some { IfSome result (IsOpen (true_in trail.now.entries) self.old) }
+        ensures none { IfNone result (AllAssigned self.old (true_in trail.now.entries)) }
     {
         for _ in 0..self.count {
             let Some(lit) = self.pop() else {
@@ -147,7 +148,7 @@ impl Order {
         let count = self.count - 1;
         let row = take_first(
             self.slots.as_mut_slice(),
-            self.places.as_mut_slice(),
+            self.positions.as_mut_slice(),
             &self.activities,
             count,
         );
@@ -162,13 +163,13 @@ impl Order {
     {
         let slot = self.count;
         if slot == self.slots.len()
-            || find_slot(&self.slots, &self.places, self.count, row).is_some()
+            || find_slot(&self.slots, &self.positions, self.count, row).is_some()
         {
             return;
         }
         put_last(
             self.slots.as_mut_slice(),
-            self.places.as_mut_slice(),
+            self.positions.as_mut_slice(),
             &self.activities,
             slot,
             row,
@@ -183,10 +184,10 @@ impl Order {
     {
         let activity = self.activities[row as usize].saturating_add(self.step);
         self.activities[row as usize] = activity;
-        if let Some(slot) = find_slot(&self.slots, &self.places, self.count, row) {
+        if let Some(slot) = find_slot(&self.slots, &self.positions, self.count, row) {
             sift_up(
                 self.slots.as_mut_slice(),
-                self.places.as_mut_slice(),
+                self.positions.as_mut_slice(),
                 &self.activities,
                 slot,
             );
@@ -203,11 +204,11 @@ impl Order {
 }
 
 /// In which slot of the heap the row stands, if it does.
-fn find_slot(slots: &[u32], places: &[u32], count: usize, row: u32) -> Option<usize>
-    requires { row < length places.now }
+fn find_slot(slots: &[u32], positions: &[u32], count: usize, row: u32) -> Option<usize>
+    requires { row < length positions.now }
     ensures { IfSome result (λ slot. slot < length slots.now) }
 {
-    let slot = places[row as usize] as usize;
+    let slot = positions[row as usize] as usize;
     if slot < count && slot < slots.len() && slots[slot] == row {
         Some(slot)
     } else {
@@ -225,7 +226,7 @@ fn scale_down(activities: &mut [u64]) {
 /// Whether the literal is neither true nor false.
 fn is_open(trail: &Trail, lit: Lit) -> bool
     requires { IsGrown trail.now.vars lit }
-    ensures { IsTrue result → IsOpen (told trail.now.entries) trail.now.vars lit }
+    ensures { IsTrue result → IsOpen (true_in trail.now.entries) trail.now.vars lit }
 {
     !trail.is_true(lit) && !trail.is_true(lit.negate())
 }
@@ -234,8 +235,8 @@ fn is_open(trail: &Trail, lit: Lit) -> bool
 fn first_open(trail: &Trail, vars: u32) -> Option<Lit>
     requires vars { vars ≤ trail.now.vars }
     requires small { vars < 2 ^ 30 }
-    ensures some { IfSome result (IsOpen (told trail.now.entries) vars) }
-    ensures none { IfNone result (AllAssigned vars (told trail.now.entries)) }
+    ensures some { IfSome result (IsOpen (true_in trail.now.entries) vars) }
+    ensures none { IfNone result (AllAssigned vars (true_in trail.now.entries)) }
 {
     for before in 0..vars {
         let lit = Lit::new(before + 1, true);

@@ -2,7 +2,7 @@
 ghost use Rattle.std.specs.Prelude.{◌≡◌, ℕ, ◌+◌, ◌-◌, ◌<◌, ◌≤◌, ◌^◌, ◌++◌, [], true, false, None, Some, All, max, min, unwrap_or, slice_index_or, IfOk, IfSome, IsSome, IsErr, OnOk, OnErr, IsTrue};
 ghost use Rattle.std.specs.Option.{option_map};
 ghost use Rattle.sat_arena.specs.Trails.{IsGrown, marked};
-ghost use Rattle.sat_arena.specs.Held.{AreGrown};
+ghost use Rattle.sat_arena.specs.ArenaState.{AreGrown};
 ghost use Rattle.sat_search.specs.Clashes.{HasClash};
 ghost use Rattle.sat_search.specs.Additions.{HasVariables};
 
@@ -17,7 +17,7 @@ use std::marker::Model;
 /// Clauses that are searched for models under assumptions, again and again, and the log of what was
 /// derived from them.
 ///
-/// A session ends for good where memory runs out, or when it is told to. Its log then stays right.
+/// A session ends for good where memory runs out, or when it is true_in to. Its log then stays right.
 ///
 /// Contracts see the log, the greatest variable, how often a solution was asked for, whether the session
 /// has ended, and the model that the last search found.
@@ -39,7 +39,14 @@ impl Model for Session {
 
     ghost Value = { Sessioned };
 
-    ghost view = { λ s. record { log = s.solver.log; vars = s.vars; asked = s.asked; ended = s.ended; model = option_map (λ v. v.items) s.model } };
+    ghost view = { λ s. record {
+      log = s.solver.log;
+      vars = s.vars;
+      asked = s.asked;
+      ended = s.ended;
+      model = option_map
+          (λ v. v.items) s.model;
+    } };
 
     ghost invariant = { λ s. IsSession s.solver s.axioms s.vars s.ended };
 }
@@ -49,7 +56,13 @@ impl Session {
 
     /// The session without variables and clauses.
     pub fn new(alloc: Global) -> Session
-        ensures { result ≡ record { log = record { axioms = []; lines = [] }; vars = 0; asked = 0; ended = false; model = None } }
+        ensures { result ≡ record {
+          log = record { axioms = []; lines = [] };
+          vars = 0;
+          asked = 0;
+          ended = false;
+          model = None;
+        } }
     {
         Session {
             alloc,
@@ -89,7 +102,12 @@ impl Session {
     /// unchanged.
     pub fn add_axioms(&mut self, clauses: &[Clause]) -> Result<(), NoMemory>
         requires { AreGrown self.old.vars clauses.now }
-        ensures ok { OnOk result (self.new ≡ record self.old { log = record self.old.log { axioms = self.old.log.axioms ++ clauses.now }; model = None }) }
+        ensures ok { OnOk result (self.new
+            ≡ record self.old {
+              log = record self.old.log
+                  { axioms = self.old.log.axioms ++ clauses.now };
+              model = None;
+            }) }
         ensures went_on { OnOk result (self.old.ended ≡ false) }
         ensures err { OnErr result (self.new ≡ record self.old { ended = true; model = None }) }
     {
@@ -113,7 +131,7 @@ impl Session {
         }
     }
 
-    /// Looks for values that satisfy all axioms, all standing lines and the assumptions. It adds a line
+    /// Looks for values that satisfy all axioms, all live_lines lines and the assumptions. It adds a line
     /// to the log only while there are fewer than `most`. After `NoMemory` the session has ended.
     pub fn solve(&mut self, assumptions: &[Lit], most: u32) -> Result<Answer, NoMemory>
         requires grown { All (IsGrown self.old.vars) assumptions.now }

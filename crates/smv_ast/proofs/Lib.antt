@@ -1,2 +1,2 @@
 pub mod PrintingLemmas
-pub mod PlacesLemmas
+pub mod SpanLemmas

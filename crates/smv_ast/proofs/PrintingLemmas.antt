@@ -1,4 +1,4 @@
--- Texts in parentheses, where there are some.
+-- Texts in parentheses.
 use Rattle.std.proofs.Common.{◌≡◌, ◌<◌, List, [], ◌∷◌, ◌++◌, codes, map, length, refl, arith}
 use Rattle.smv_ast.specs.declared.syntax.Expr.{Expr}
 use Rattle.smv_ast.specs.PrintedExpr.{listed, texts, piece_of}

@@ -1,3 +1,3 @@
 pub mod PrintedExpr
 pub mod PrintedProgram
-pub mod Places
+pub mod IgnoringSpans

@@ -1,5 +1,4 @@
--- The canonical text of expressions, as this project spells SMV: parentheses stand round each operand that is not
--- plainly one, and nowhere else.
+-- The canonical text of expressions: compound operands stand in parentheses, and nothing else does.
 use Rattle.std.specs.Prelude.{ℕ, Bool, true, false, if◌then◌else◌, List, [], ◌∷◌, ◌++◌, codes}
 use Rattle.std.specs.Fmt.{decimal, signed_decimal}
 use Rattle.smv_ast.specs.declared.syntax.Op.{Op}
@@ -21,9 +20,9 @@ joined separator [] = []
 joined separator (text ∷ more) = text ++ each_after separator more
 
 -- the texts one after another
-abbrev pub in_a_row : List (List ℕ) → List ℕ
-in_a_row [] = []
-in_a_row (text ∷ more) = text ++ in_a_row more
+abbrev pub concatenated : List (List ℕ) → List ℕ
+concatenated [] = []
+concatenated (text ∷ more) = text ++ concatenated more
 
 -- `a, b, c`
 abbrev pub listed : List (List ℕ) → List ℕ
@@ -31,24 +30,24 @@ listed = joined (codes ", ")
 
 -- ---- expressions
 
--- the text of an expression, and whether it stands bare as an operand
+-- the text of an expression, and whether it needs no parentheses as an operand
 pub record Piece : Type 0 where
   pub text : List ℕ
-  pub bare : Bool
+  pub primary : Bool
 
--- TRUE, FALSE, numerals, paths, cases and `next(e)` stand bare
-abbrev pub bare_piece : List ℕ → Piece
-bare_piece text = record { text = text; bare = true }
+-- TRUE, FALSE, numerals, paths, cases and `next(e)` need no parentheses
+abbrev pub primary_piece : List ℕ → Piece
+primary_piece text = record { text = text; primary = true }
 
 -- every other operand stands in parentheses
-abbrev pub open_piece : List ℕ → Piece
-open_piece text = record { text = text; bare = false }
+abbrev pub compound_piece : List ℕ → Piece
+compound_piece text = record { text = text; primary = false }
 
--- the piece as an operand of an operator
+-- the text of an operand
 abbrev pub operand : Piece → List ℕ
-operand piece = if piece.bare then piece.text else codes "(" ++ piece.text ++ codes ")"
+operand piece = if piece.primary then piece.text else codes "(" ++ piece.text ++ codes ")"
 
--- the texts of the pieces
+-- the texts of these pieces
 abbrev pub texts : List Piece → List (List ℕ)
 texts [] = []
 texts (piece ∷ more) = piece.text ∷ texts more
@@ -72,30 +71,30 @@ op_text op.Xnor = codes " xnor "
 op_text op.Iff = codes " <-> "
 op_text op.Implies = codes " -> "
 
--- `{a, b}` or `low..high`, of the pieces of the parts
+-- `{a, b}` or `low..high`, given the pieces of the parts
 abbrev pub choice_layer : Choice-F (List ℕ) Piece (List ℕ) → List ℕ
 choice_layer (Choice-F.Each parts) = codes "{" ++ listed (texts parts) ++ codes "}"
 choice_layer (Choice-F.Between low high) = signed_decimal low ++ codes ".." ++ signed_decimal high
 
--- `cond : value; `, of the pieces of the parts
+-- `cond : value; `, given the pieces of the parts
 abbrev pub branch_layer : Branch-F (List ℕ) Piece (List ℕ) → List ℕ
 branch_layer branch = branch.cond.text ++ codes " : " ++ branch.value.text ++ codes "; "
 
--- an expression, of the pieces of its parts
+-- an expression, given the pieces of its parts
 abbrev pub expr_layer : Expr-F (List ℕ) Piece (List ℕ) → Piece
-expr_layer Expr-F.True = bare_piece (codes "TRUE")
-expr_layer Expr-F.False = bare_piece (codes "FALSE")
-expr_layer (Expr-F.Number n) = bare_piece (decimal n)
-expr_layer (Expr-F.Name path) = bare_piece (joined (codes ".") path.names)
-expr_layer (Expr-F.Neg a) = open_piece (codes "-" ++ operand a)
-expr_layer (Expr-F.Not a) = open_piece (codes "!" ++ operand a)
-expr_layer (Expr-F.Binary op a b) = open_piece (operand a ++ op_text op ++ operand b)
-expr_layer (Expr-F.Within a choice) = open_piece (operand a ++ codes " in " ++ choice)
-expr_layer (Expr-F.Cases branches) = bare_piece (codes "case " ++ in_a_row branches ++ codes "esac")
-expr_layer (Expr-F.Next a) = bare_piece (codes "next(" ++ a.text ++ codes ")")
-expr_layer (Expr-F.Pick choice) = open_piece choice
+expr_layer Expr-F.True = primary_piece (codes "TRUE")
+expr_layer Expr-F.False = primary_piece (codes "FALSE")
+expr_layer (Expr-F.Number n) = primary_piece (decimal n)
+expr_layer (Expr-F.Name path) = primary_piece (joined (codes ".") path.names)
+expr_layer (Expr-F.Neg a) = compound_piece (codes "-" ++ operand a)
+expr_layer (Expr-F.Not a) = compound_piece (codes "!" ++ operand a)
+expr_layer (Expr-F.Binary op a b) = compound_piece (operand a ++ op_text op ++ operand b)
+expr_layer (Expr-F.Within a choice) = compound_piece (operand a ++ codes " in " ++ choice)
+expr_layer (Expr-F.Cases branches) = primary_piece (codes "case " ++ concatenated branches ++ codes "esac")
+expr_layer (Expr-F.Next a) = primary_piece (codes "next(" ++ a.text ++ codes ")")
+expr_layer (Expr-F.Pick choice) = compound_piece choice
 
--- layer by layer, the parts first
+-- the piece of an expression, by recursion on its parts
 abbrev pub piece_of : Expr → Piece
 piece_of = fold-Expr (List ℕ) Piece (List ℕ) choice_layer expr_layer branch_layer
 

@@ -1,5 +1,5 @@
--- The canonical text of models, as this project spells SMV: modules one after another, each section in its place,
--- each declaration, assignment and definition on a line of its own.
+-- The canonical text of models: modules in their order, then their sections; each declaration,
+-- assignment and definition has a line of its own.
 use Rattle.std.specs.Prelude.{ℕ, List, [], ◌∷◌, ◌++◌, codes, map}
 use Rattle.std.specs.Fmt.{signed_decimal}
 use Rattle.smv_ast.specs.declared.syntax.SmvType.{SmvType}
@@ -15,9 +15,9 @@ use Rattle.smv_ast.specs.declared.program.Section.{Section}
 use Rattle.smv_ast.specs.declared.program.Section.TheVariants as section
 use Rattle.smv_ast.specs.declared.program.Module.{Module}
 use Rattle.smv_ast.specs.declared.program.Program.{Program}
-use Rattle.smv_ast.specs.PrintedExpr.{in_a_row, listed, texts, piece_of, printed_expr}
+use Rattle.smv_ast.specs.PrintedExpr.{concatenated, listed, texts, piece_of, printed_expr}
 
--- ` (a, b)` behind a name; nothing where there are none
+-- ` (a, b)` after a name; nothing for an empty list
 abbrev pub in_parentheses : List (List ℕ) → List ℕ
 in_parentheses [] = []
 in_parentheses (text ∷ more) = codes "(" ++ listed (text ∷ more) ++ codes ")"
@@ -62,9 +62,9 @@ constraint_line word text = word ++ text ++ codes ";\n"
 
 -- an empty section is its word alone
 abbrev pub printed_section : Section → List ℕ
-printed_section (section.Vars declarations) = codes "VAR\n" ++ in_a_row (map declaration_line declarations)
-printed_section (section.Assigns assignments) = codes "ASSIGN\n" ++ in_a_row (map assignment_line assignments)
-printed_section (section.Defines definitions) = codes "DEFINE\n" ++ in_a_row (map definition_line definitions)
+printed_section (section.Vars declarations) = codes "VAR\n" ++ concatenated (map declaration_line declarations)
+printed_section (section.Assigns assignments) = codes "ASSIGN\n" ++ concatenated (map assignment_line assignments)
+printed_section (section.Defines definitions) = codes "DEFINE\n" ++ concatenated (map definition_line definitions)
 printed_section (section.Init e at) = constraint_line (codes "INIT ") (printed_expr e)
 printed_section (section.Invar e at) = constraint_line (codes "INVAR ") (printed_expr e)
 printed_section (section.Trans e at) = constraint_line (codes "TRANS ") (printed_expr e)
@@ -72,8 +72,8 @@ printed_section (section.InvarSpec e at) = constraint_line (codes "INVARSPEC ") 
 
 -- `MODULE m(a, b)`, and its sections in their order
 abbrev pub printed_module : Module → List ℕ
-printed_module m = codes "MODULE " ++ m.name ++ in_parentheses m.formals ++ codes "\n" ++ in_a_row (map printed_section m.sections)
+printed_module m = codes "MODULE " ++ m.name ++ in_parentheses m.formals ++ codes "\n" ++ concatenated (map printed_section m.sections)
 
 -- the canonical text of a model
 abbrev pub printed_program : Program → List ℕ
-printed_program p = in_a_row (map printed_module p.modules)
+printed_program p = concatenated (map printed_module p.modules)

@@ -1,4 +1,4 @@
-//! Why a text or a family is refused.
+//! The reasons for which a text or a family is refused.
 
 use crate::model::Product;
 use crate::syntax::Span;
@@ -21,15 +21,15 @@ impl<T: Drop> From<AllocFailed<T>> for NoMemory {
     }
 }
 
-/// What is wrong with the input, where, and with which values. A fault without a place speaks of the
-/// whole input.
+/// The kind of a fault in the input, with its span and its values. A fault without a span is a
+/// fault of the whole input.
 #[derive(Drop)]
 pub enum Fault {
-    /// No text of the grammar goes on so.
+    /// The tokens up to here are not a viable prefix of the grammar.
     Syntax {
         at: Option<Span>,
     },
-    /// The same, and the token is one of SMV that is left out here.
+    /// A syntax fault at a token of SMV that is not supported here.
     LeftOut {
         at: Option<Span>,
         word: Text,
@@ -66,7 +66,7 @@ pub enum Fault {
         at: Option<Span>,
         count: u64,
     },
-    /// A second text of one feature.
+    /// A second text for one feature.
     DuplicateText {
         at: Option<Span>,
         name: Text,
@@ -98,7 +98,7 @@ pub enum Fault {
         feature: Text,
         name: Text,
     },
-    /// An introduced name stands already.
+    /// An introduced name is declared already.
     IntroduceClash {
         at: Option<Span>,
         feature: Text,
@@ -110,7 +110,7 @@ pub enum Fault {
         feature: Text,
         name: Text,
     },
-    /// A feature assigns what it does not introduce.
+    /// A feature assigns a variable that it does not introduce.
     IntroducedAssign {
         at: Option<Span>,
         feature: Text,
@@ -121,12 +121,12 @@ pub enum Fault {
         at: Option<Span>,
         name: Text,
     },
-    /// The form of the left side does not fit the assignments that stand.
+    /// The left side does not fit the existing assignments of the variable.
     ImposeKind {
         at: Option<Span>,
         name: Text,
     },
-    /// The path is not known in the module, or leads to an instance.
+    /// The path is not known in the module, or resolves to an instance.
     TreatTarget {
         at: Option<Span>,
         path: Text,
@@ -136,12 +136,12 @@ pub enum Fault {
         at: Option<Span>,
         path: Text,
     },
-    /// An instance of no module, or no `main`.
+    /// An instance of an unknown module, or no `main`.
     UnknownModule {
         at: Option<Span>,
         name: Text,
     },
-    /// A module's instances lead back to it.
+    /// A module is on a cycle of instances.
     RecursiveModule {
         at: Option<Span>,
         name: Text,
@@ -156,7 +156,7 @@ pub enum Fault {
         at: Option<Span>,
         name: Text,
     },
-    /// A rule of kinds is broken, or an instance stands as a value.
+    /// A rule of kinds is broken, or an instance is used as a value.
     KindMismatch {
         at: Option<Span>,
     },
@@ -168,11 +168,11 @@ pub enum Fault {
     NegativeMod {
         at: Option<Span>,
     },
-    /// A choice stands where none may.
+    /// A choice where none is allowed.
     ChoicePlace {
         at: Option<Span>,
     },
-    /// A `next` stands where none may.
+    /// A `next` where none is allowed.
     NextPlace {
         at: Option<Span>,
     },
@@ -186,7 +186,7 @@ pub enum Fault {
         at: Option<Span>,
         name: Text,
     },
-    /// A definition or formal reads itself through others.
+    /// A definition or formal is on a cycle.
     CyclicDefine {
         at: Option<Span>,
         cycle: Text,
@@ -195,7 +195,7 @@ pub enum Fault {
     TooLarge {
         at: Option<Span>,
     },
-    /// There is nothing to prove.
+    /// There is no spec to prove.
     NoSpec {
         at: Option<Span>,
     },

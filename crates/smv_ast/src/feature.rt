@@ -6,8 +6,8 @@ use crate::syntax::{Expr, Path, SmvType, Span};
 use crate::text::Text;
 use sqlite_items::Items as List;
 
-/// A name that a feature requires of a module, and the type that it wants, if it says one. With an
-/// empty name it asks for the module alone.
+/// A name that a feature requires of a module, and its type, if the feature states one. An empty
+/// name requires the module alone.
 #[derive(Drop)]
 pub struct Need {
     pub module: Text,
@@ -24,16 +24,16 @@ pub struct Joined {
     pub at: Span,
 }
 
-/// What a change does where its condition is true.
+/// The effect of a change where its condition is true.
 #[derive(Drop)]
 pub enum Action {
-    /// The variable's value of this time becomes that of `right`.
+    /// The variable's value, at the time of the left side, becomes that of `right`.
     Impose { left: Left, name: Text, right: Expr },
     /// Each read of the path reads `right` instead.
     Treat { path: Path, right: Expr },
 }
 
-/// One action of a feature in one module. Its place is the word IMPOSE or TREAT.
+/// One action of a feature in one module. Its span is the word IMPOSE or TREAT.
 #[derive(Drop)]
 pub struct Change {
     pub module: Text,
@@ -76,7 +76,7 @@ pub struct OwnedSpec {
     pub feature: u8,
 }
 
-/// The one model of a family in which each change is guarded by its feature's variable.
+/// The lifted model of a family: each change is guarded by its feature's variable.
 #[derive(Drop)]
 pub struct Lifted {
     pub program: Program,

@@ -4,7 +4,7 @@ use crate::syntax::Expr;
 use crate::text::Text;
 use sqlite_items::Items as List;
 
-/// How the children of a group depend on their parent.
+/// The relation between the children of a group and their parent.
 #[derive(Clone, Copy, Debug, PartialEq, Eq)]
 pub enum GroupKind {
     Mandatory,
@@ -13,7 +13,7 @@ pub enum GroupKind {
     Alternative,
 }
 
-/// A line of a feature model. Features go by their numbers.
+/// A line of a feature model. Features are given by number.
 #[derive(Drop)]
 pub enum ModelLine {
     Group {
@@ -24,14 +24,14 @@ pub enum ModelLine {
     Constraint(Expr),
 }
 
-/// The features by their numbers, of which 0 is the root, and what restricts their sets.
+/// The features by number, the root 0, and the constraints on their sets.
 #[derive(Drop)]
 pub struct FeatureModel {
     pub names: List<Text>,
     pub lines: List<ModelLine>,
 }
 
-/// A set of features: bit i tells whether feature i is in it.
+/// A set of features: bit i is set where feature i is in it.
 #[derive(Clone, Copy, Debug, PartialEq, Eq)]
 pub struct Product {
     pub bits: u64,

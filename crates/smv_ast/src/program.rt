@@ -4,7 +4,7 @@ use crate::syntax::{Expr, SmvType, Span};
 use crate::text::Text;
 use sqlite_items::Items as List;
 
-/// What a name of a VAR section stands for.
+/// The type of a variable, or the module and actuals of an instance.
 #[derive(Drop)]
 pub enum Declared {
     Plain(SmvType),
@@ -18,7 +18,7 @@ pub struct Declaration {
     pub at: Span,
 }
 
-/// Of which value an assignment speaks: the first, the next, or that in every state.
+/// The value that an assignment fixes: the first, the next, or that in every state.
 #[derive(Clone, Copy, Debug, PartialEq, Eq)]
 pub enum Left {
     Init,
@@ -62,14 +62,13 @@ pub struct Module {
     pub at: Span,
 }
 
-/// A whole model. Instances begin at its module `main`.
+/// A whole model. Its root instance is the module `main`.
 #[derive(Drop)]
 pub struct Program {
     pub modules: List<Module>,
 }
 
-/// A section that is passed over, by its first word: SPEC, CTLSPEC, LTLSPEC, FAIRNESS, JUSTICE or
-/// COMPASSION.
+/// A skipped section, by its first word: SPEC, CTLSPEC, LTLSPEC, FAIRNESS, JUSTICE or COMPASSION.
 #[derive(Drop)]
 pub struct Skipped {
     pub word: Text,

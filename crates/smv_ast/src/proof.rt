@@ -1,4 +1,4 @@
-//! What proofs over clauses cite.
+//! Citations of clauses and cubes in proofs.
 
 use crate::model::{Literal, Product};
 
@@ -9,14 +9,15 @@ pub enum Id {
     Derived(u32),
 }
 
-/// Why a list of literals cannot hold: a clause of their negations, or two that clash.
+/// The reason for which a list of literals has no model: a clause of their negations, or two
+/// literals that clash.
 #[derive(Clone, Copy, Debug, PartialEq, Eq)]
 pub enum Proof {
     Cited(Id),
     Clash,
 }
 
-/// A literal that a failing cube needs, and a product without it in which its trace violates nothing.
+/// A literal that a failing cube needs, and a product without it whose trace violates nothing.
 #[derive(Clone, Copy, Debug, PartialEq, Eq)]
 pub struct Edge {
     pub literal: Literal,

@@ -1,17 +1,17 @@
-//! Places, names, types and expressions.
+//! Spans, names, types and expressions.
 
 use crate::text::Text;
 use sqlite_items::{Boxed, Items as List};
 
-/// A place in the input: the number of a file, counted from 0 in the order of the words that name
-/// them, and the offset in bytes from the file's start.
+/// A position in the input: the number of a file, counted from 0 in the order of the command's
+/// words, and the offset in bytes from the file's start.
 #[derive(Clone, Copy, Debug, PartialEq, Eq)]
 pub struct Span {
     pub file: u32,
     pub at: u32,
 }
 
-/// Names joined by dots. At least one.
+/// Names joined by dots; at least one.
 #[derive(Drop)]
 pub struct Path {
     pub names: List<Text>,
@@ -22,13 +22,13 @@ pub struct Path {
 #[derive(Drop)]
 pub enum SmvType {
     Boolean,
-    /// The whole numbers from `low` up to `high`, both counted.
+    /// The whole numbers from `low` up to `high`, both included.
     Range { low: i64, high: i64 },
     Numbers(List<i64>),
     Symbols(List<Text>),
 }
 
-/// An operator between two operands.
+/// A binary operator.
 #[derive(Clone, Copy, Debug, PartialEq, Eq)]
 pub enum Op {
     Add,

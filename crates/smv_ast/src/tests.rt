@@ -13,8 +13,8 @@ fn name(alloc: Global, text: &str) -> Result<Expr, NoMemory> {
 // `next(x) = (-(y mod 3))`.
 fn remainder(alloc: Global) -> Result<Expr, NoMemory> {
     let y = Boxed::new(alloc, name(alloc, "y")?)?;
-    let rest = Expr::Binary(Op::Mod, y, Boxed::new(alloc, Expr::Number(3))?);
-    let negative = Expr::Neg(Boxed::new(alloc, rest)?);
+    let remaining = Expr::Binary(Op::Mod, y, Boxed::new(alloc, Expr::Number(3))?);
+    let negative = Expr::Neg(Boxed::new(alloc, remaining)?);
     let next = Expr::Next(Boxed::new(alloc, name(alloc, "x")?)?);
     let left = Boxed::new(alloc, next)?;
     Ok(Expr::Binary(Op::Eq, left, Boxed::new(alloc, negative)?))

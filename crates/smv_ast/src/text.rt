@@ -4,7 +4,7 @@ use crate::fault::NoMemory;
 use std::alloc::Global;
 use std::marker::Model;
 
-/// A text, which contracts see as the list of its bytes.
+/// A text, whose model is the list of its bytes.
 #[derive(Debug, Drop)]
 pub struct Text {
     text: String,
@@ -19,7 +19,7 @@ impl Model for Text {
 }
 
 impl Text {
-    /// A copy of the text.
+    /// A copy of the text. The only error is `NoMemory`.
     pub fn from_str(alloc: Global, text: &str) -> Result<Text, NoMemory>
         ensures { IfOk result (λ t. t ≡ text.now) }
     {
@@ -28,7 +28,7 @@ impl Text {
         })
     }
 
-    /// A copy of bytes that are ASCII.
+    /// A copy of bytes that are ASCII. The only error is `NoMemory`.
     pub fn from_ascii(alloc: Global, bytes: &[u8]) -> Result<Text, NoMemory>
         requires { All (λ b. b < 128) bytes.now }
         ensures { IfOk result (λ t. t ≡ bytes.now) }
@@ -45,7 +45,7 @@ impl Text {
         self.text.as_str()
     }
 
-    /// Whether both are the same bytes.
+    /// Whether both have the same bytes.
     pub fn is(&self, other: &str) -> bool
         ensures { IsTrue result ↔ (self.now ≡ other.now) }
     {

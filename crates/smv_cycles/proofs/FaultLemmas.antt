@@ -1,4 +1,4 @@
--- The faults by number are those of the program.
+-- The faults by slots are those of the program.
 use Rattle.std.proofs.Common.{◌≡◌, ℕ, suc, ◌+◌, ◌<◌, Bool, true, false, List, [], ◌∷◌, length, map, Option, Some, None, refl, sym, ap, ◌∙◌, subst, arith, length-append, if◌then◌else◌, nat_eq, nat_lt, codes}
 use Rattle.std.specs.Prelude.{slice_get}
 use Rattle.std.specs.Option.{option_map}
@@ -10,215 +10,227 @@ use Rattle.smv_ast.specs.declared.syntax.Expr.{Expr}
 use Rattle.smv_ast.specs.declared.syntax.Span.{Span}
 use Rattle.smv_ast.specs.declared.program.Module.{Module}
 use Rattle.smv_ast.specs.declared.program.Program.{Program}
-use Rattle.smv_meaning.specs.declared.tree.Tree.{Tree}
-use Rattle.smv_meaning.specs.declared.tree.Row.{Row}
-use Rattle.smv_meaning.specs.declared.tree.Link.{Link}
+use Rattle.smv_meaning.specs.declared.table.InstanceTable.{InstanceTable}
+use Rattle.smv_meaning.specs.declared.table.Row.{Row}
+use Rattle.smv_meaning.specs.declared.table.Link.{Link}
 use Rattle.smv_meaning.specs.Value.{Name, and_then}
-use Rattle.smv_meaning.specs.Least.{entry}
-use Rattle.smv_meaning.specs.Paths.{Spot, Meant}
-use Rattle.smv_meaning.specs.Instances.{Entry, Place, Main, Within, path_of, depth_of, called_at, module_named, module_at, entries, instances, meant_at}
-use Rattle.smv_meaning.specs.Runs.{or_else, first_some}
-use Rattle.smv_meaning.specs.Tree.{placed, meant_seen, entries_at, places, next_place}
-use Rattle.smv_meaning.specs.Slots.{slot_of, meant_in, TellsStanding}
-use Rattle.smv_meaning.specs.Worth.{link_of}
-use Rattle.smv_meaning.specs.Checking.{IsRight, AreRows, stands}
-use Rattle.smv_meaning.proofs.NumberLemmas.{same_meant}
-use Rattle.smv_meaning.proofs.TreeLemmas.{names_at, row_at}
+use Rattle.fixpoint.specs.Fixpoints.{entry}
+use Rattle.smv_meaning.specs.Paths.{QualifiedName, Binding}
+use Rattle.smv_meaning.specs.Instances.{Entry, Instance, Main, Within, path_of, depth_of, called_at, module_named, module_at, entries, instances, binding_at}
+use Rattle.smv_meaning.specs.Runs.{or_else, first_fault}
+use Rattle.smv_meaning.specs.InstanceTable.{renumbered, binding_view, entries_at, row_instances, instance_of_link}
+use Rattle.smv_meaning.specs.Slots.{slot_of, binding_in, AreAliases}
+use Rattle.smv_meaning.specs.Valuation.{link_of}
+use Rattle.smv_meaning.specs.Checking.{IsTableOfProgram, AreRows, instance_at}
+use Rattle.smv_meaning.proofs.NumberLemmas.{same_binding}
+use Rattle.smv_meaning.proofs.InstanceTableLemmas.{names_at, row_at}
 use Rattle.smv_meaning.proofs.RunLemmas.{first_mapped}
-use Rattle.smv_loops.specs.Loops.{leads}
-use Rattle.smv_cycles.specs.Reads.{Edge, tallest, heights, own_circle, circle_of}
-use Rattle.smv_cycles.specs.Held.{edges_seen, edges_at, slot_edges, edges_in}
+use Rattle.graph.specs.Graphs.{successors_in, on_cycle, cycle_of}
+use Rattle.graph.proofs.Renaming as renaming
+use Rattle.smv_cycles.specs.Reads.{Edge, tallest, heights, read_by, own_cycle}
+use Rattle.smv_cycles.specs.Held.{edges_view, edges_at, slot_edges, edges_in}
 use Rattle.smv_cycles.specs.Cycles as spec
 use Rattle.smv_cycles.specs.HeldCycles as number
 use Rattle.smv_cycles.proofs.HeightLemmas.{then_some, in_some, no_edges}
-use Rattle.smv_cycles.proofs.LoopLemmas.{loop_is}
 use Rattle.smv_cycles.proofs.MovedLemmas as moved
 use Rattle.smv_cycles.proofs.ProgramLemmas as names
 
-mapped_first : {A K L : Type 0} (f : K → L) (F : A → Option K) (G : A → Option L) → ((a : A) → option_map f (F a) ≡ G a) → (xs : List A) → option_map f (first_some F xs) ≡ first_some G xs
+mapped_first : {A K L : Type 0} (f : K → L) (F : A → Option K) (G : A → Option L) → ((a : A) → option_map f (F a) ≡ G a) → (xs : List A) → option_map f (first_fault F xs) ≡ first_fault G xs
 mapped_first f F G h [] = refl
 mapped_first {K = K} {L = L} f F G h (x ∷ xs) = at (F x) (h x) (mapped_first f F G h xs)
   where
-    at : (o : Option K) → option_map f o ≡ G x → option_map f (first_some F xs) ≡ first_some G xs → option_map f (or_else o (first_some F xs)) ≡ or_else (G x) (first_some G xs)
-    at None e g = g ∙ ap (λ (p : Option L). or_else p (first_some G xs)) e
-    at (Some c) e g = ap (λ (p : Option L). or_else p (first_some G xs)) e
+    at : (o : Option K) → option_map f o ≡ G x → option_map f (first_fault F xs) ≡ first_fault G xs → option_map f (or_else o (first_fault F xs)) ≡ or_else (G x) (first_fault G xs)
+    at None e g = g ∙ ap (λ (p : Option L). or_else p (first_fault G xs)) e
+    at (Some c) e g = ap (λ (p : Option L). or_else p (first_fault G xs)) e
 
-first_is : {A K : Type 0} (P : K → Type 0) (F : A → Option K) → ((a : A) (c : K) → F a ≡ Some c → P c) → (xs : List A) (c : K) → first_some F xs ≡ Some c → P c
+first_is : {A K : Type 0} (P : K → Type 0) (F : A → Option K) → ((a : A) (c : K) → F a ≡ Some c → P c) → (xs : List A) (c : K) → first_fault F xs ≡ Some c → P c
 first_is P F h [] c e = cc
 first_is {K = K} P F h (x ∷ xs) c e = at (F x) refl (first_is P F h xs c) e
   where
-    at : (o : Option K) → F x ≡ o → (first_some F xs ≡ Some c → P c) → or_else o (first_some F xs) ≡ Some c → P c
+    at : (o : Option K) → F x ≡ o → (first_fault F xs ≡ Some c → P c) → or_else o (first_fault F xs) ≡ Some c → P c
     at None g more e = more e
     at (Some d) g more e = h x c (g ∙ e)
 
-path_length : (p : Place) → depth_of p ≡ length (path_of p)
+path_length : (p : Instance) → depth_of p ≡ length (path_of p)
 path_length Main = refl
 path_length (Within outer name called) = let h = path_length outer in omega (arith, h, length-append (path_of outer) (name ∷ []))
 
-module _ (program : Program) (tree : Tree) (right : IsRight program tree) where
+module _ (program : Program) (table : InstanceTable) (right : IsTableOfProgram program table) where
   -- ---- rows
 
-  stands_is : (row : ℕ) → row < length tree.rows → stands tree row ≡ next_place (places tree.rows) (number.link_at tree row)
-  stands_is row h = let r = row_at tree.rows row h in (right.rows row r.0 r.1).stands ∙ ap (λ (o : Option Row). next_place (places tree.rows) (link_of o)) (sym r.1)
+  instance_at_is : (row : ℕ) → row < length table.rows → instance_at table row ≡ instance_of_link (row_instances table.rows) (number.link_at table row)
+  instance_at_is row h = let r = row_at table.rows row h in (right.rows row r.0 r.1).instance_at ∙ ap (λ (o : Option Row). instance_of_link (row_instances table.rows) (link_of o)) (sym r.1)
 
-  module_is : (row : ℕ) → row < length tree.rows → number.module_row program tree row ≡ module_at program (stands tree row)
-  module_is row h = ap (module_named program) (called (number.link_at tree row) ∙ ap called_at (sym (stands_is row h)))
+  module_is : (row : ℕ) → row < length table.rows → number.module_row program table row ≡ module_at program (instance_at table row)
+  module_is row h = ap (module_named program) (called (number.link_at table row) ∙ ap called_at (sym (instance_at_is row h)))
     where
-      called : (l : Option Link) → number.called_of l ≡ called_at (next_place (places tree.rows) l)
+      called : (l : Option Link) → number.called_of l ≡ called_at (instance_of_link (row_instances table.rows) l)
       called None = refl
       called (Some l) = refl
 
-  deep_is : (row : ℕ) → row < length tree.rows → number.deep_row tree row ≡ spec.deep_in (stands tree row)
+  deep_is : (row : ℕ) → row < length table.rows → number.deep_row table row ≡ spec.deep_in (instance_at table row)
   deep_is row h =
-      let r = row_at tree.rows row h in
-      ap number.deep_found r.1 ∙ ap (λ (d : ℕ). nat_lt 1000 (d + 1)) ((right.rows row r.0 r.1).depth ∙ path_length (stands tree row))
+      let r = row_at table.rows row h in
+      ap number.deep_found r.1 ∙ ap (λ (d : ℕ). nat_lt 1000 (d + 1)) ((right.rows row r.0 r.1).depth ∙ path_length (instance_at table row))
 
-  module _ (one : number.OneEach tree) (standing : List (Option ℕ)) (tells : TellsStanding tree standing) (graph : number.Graph) (seen : map (option_map edges_seen) graph ≡ map (slot_edges tree standing) tree.slots) where
-    abbrev f : ℕ → Spot Place
-    f = names.of_slot program tree right
+  module _ (one : number.OneEach table) (aliases : List (Option ℕ)) (is_of : AreAliases table aliases) (graph : number.Graph) (seen : map (option_map edges_view) graph ≡ map (slot_edges table aliases) table.slots) where
+    abbrev f : ℕ → QualifiedName Instance
+    f = names.of_slot program table right
 
     abbrev R : ℕ → Type 0
-    R = names.IsSlot program tree right
+    R = names.IsSlot program table right
 
     abbrev ek : ℕ → Option (List (Edge ℕ))
     ek = edges_at graph
 
-    abbrev el : Spot Place → Option (List (Edge (Spot Place)))
+    abbrev el : QualifiedName Instance → Option (List (Edge (QualifiedName Instance)))
     el = spec.program_edges program
 
     heights_are : (k : ℕ) → R k → heights ek k ≡ heights el (f k)
-    heights_are = moved.heights_same f R ek el (names.covers program tree right standing tells graph seen) (names.inside program tree right standing tells graph seen)
+    heights_are = moved.heights_same f R ek el (names.covers program table right aliases is_of graph seen) (names.inside program table right aliases is_of graph seen)
 
-    own_is : (k : ℕ) → R k → option_map f (own_circle ek nat_eq k) ≡ own_circle el spec.same_spot (f k)
-    own_is = moved.own_same f R ek el (names.covers program tree right standing tells graph seen) (names.inside program tree right standing tells graph seen) nat_eq spec.same_spot (names.slots_same program tree right one)
+    abbrev sk : ℕ → List ℕ
+    sk = successors_in (number.targets graph)
 
-    circle_is : (k : ℕ) → R k → map f (circle_of ek nat_eq k) ≡ circle_of el spec.same_spot (f k)
-    circle_is k i = moved.circle_same f R ek el (names.covers program tree right standing tells graph seen) (names.inside program tree right standing tells graph seen) nat_eq spec.same_spot (names.slots_same program tree right one) k i
+    abbrev sl : QualifiedName Instance → List (QualifiedName Instance)
+    sl = read_by el
 
-    circle_within : (k : ℕ) → R k → moved.AllIn f R (circle_of ek nat_eq k)
-    circle_within k i = moved.circle_in f R ek el (names.covers program tree right standing tells graph seen) (names.inside program tree right standing tells graph seen) nat_eq spec.same_spot (names.slots_same program tree right one) k i
+    cycle_is : (k : ℕ) → R k → map f (cycle_of sk nat_eq k) ≡ cycle_of sl spec.same_spot (f k)
+    cycle_is = renaming.cycle_same f R sk sl (names.reads_over program table right aliases is_of graph seen) (names.reads_inside program table right aliases is_of graph seen) nat_eq spec.same_spot (names.slots_same program table right one)
 
-    -- ---- the first circle
+    cycle_within : (k : ℕ) → R k → renaming.AllIn R (cycle_of sk nat_eq k)
+    cycle_within = renaming.cycle_in f R sk sl (names.reads_over program table right aliases is_of graph seen) (names.reads_inside program table right aliases is_of graph seen) nat_eq spec.same_spot (names.slots_same program table right one)
 
-    name_is : (row : ℕ) → row < length tree.rows → (name : Name) → option_map f (number.name_circle tree (number.targets graph) row name) ≡ own_circle el spec.same_spot (record { place = stands tree row; name = name })
-    name_is row h name = at (slot_of tree spot) refl
+    own_is : (k : ℕ) → R k → option_map f (number.if_on_cycle (number.targets graph) k) ≡ own_cycle el spec.same_spot (f k)
+    own_is k i =
+        chosen (on_cycle (number.targets graph) k)
+        ∙ ap (λ (b : Bool). if b then Some (f k) else None) (renaming.on_cycle_same f R sk sl (names.reads_over program table right aliases is_of graph seen) (names.reads_inside program table right aliases is_of graph seen) nat_eq spec.same_spot (names.slots_same program table right one) k i)
       where
-        spot : Spot ℕ
-        spot = record { place = row; name = name }
+        chosen : (b : Bool) → option_map f (if b then Some k else None) ≡ (if b then Some (f k) else None)
+        chosen true = refl
+        chosen false = refl
 
-        this : Spot Place
-        this = record { place = stands tree row; name = name }
+    -- ---- the first cycle
 
-        nothing : slot_of tree (record { place = row; name = name }) ≡ None → own_circle el spec.same_spot (record { place = stands tree row; name = name }) ≡ None
+    name_is : (row : ℕ) → row < length table.rows → (name : Name) → option_map f (number.name_cycle table (number.targets graph) row name) ≡ own_cycle el spec.same_spot (record { instance = instance_at table row; name = name })
+    name_is row h name = at (slot_of table qualified) refl
+      where
+        qualified : QualifiedName ℕ
+        qualified = record { instance = row; name = name }
+
+        this : QualifiedName Instance
+        this = record { instance = instance_at table row; name = name }
+
+        nothing : slot_of table (record { instance = row; name = name }) ≡ None → own_cycle el spec.same_spot (record { instance = instance_at table row; name = name }) ≡ None
         nothing e =
-            let m : meant_in tree (record { place = row; name = name }) ≡ None = ap (λ (o : Option ℕ). and_then o (λ k. and_then (slice_get tree.slots k) (λ slot. Some (meant_seen slot.meant)))) e in
-            let p : meant_at program (record { place = stands tree row; name = name }) ≡ None = sym (same_meant program tree right row name h).same ∙ ap (option_map (placed (stands tree))) m in
-            no_edges el spec.same_spot (record { place = stands tree row; name = name }) (ap (λ (o : Option (Meant Place)). and_then o (spec.edges_by (meant_at program) (record { place = stands tree row; name = name }))) p)
+            let m : binding_in table (record { instance = row; name = name }) ≡ None = ap (λ (o : Option ℕ). and_then o (λ k. and_then (slice_get table.slots k) (λ slot. Some (binding_view slot.binding)))) e in
+            let p : binding_at program (record { instance = instance_at table row; name = name }) ≡ None = sym (same_binding program table right row name h).same ∙ ap (option_map (renumbered (instance_at table))) m in
+            no_edges el spec.same_spot (record { instance = instance_at table row; name = name }) (ap (λ (o : Option (Binding Instance)). and_then o (spec.edges_by (binding_at program) (record { instance = instance_at table row; name = name }))) p)
 
-        at : (o : Option ℕ) → slot_of tree (record { place = row; name = name }) ≡ o → option_map f (number.name_circle tree (number.targets graph) row name) ≡ own_circle el spec.same_spot (record { place = stands tree row; name = name })
-        at None e = ap (λ (o : Option ℕ). option_map f (and_then o (number.if_loop (number.targets graph)))) e ∙ sym (nothing e)
+        at : (o : Option ℕ) → slot_of table (record { instance = row; name = name }) ≡ o → option_map f (number.name_cycle table (number.targets graph) row name) ≡ own_cycle el spec.same_spot (record { instance = instance_at table row; name = name })
+        at None e = ap (λ (o : Option ℕ). option_map f (and_then o (number.if_on_cycle (number.targets graph)))) e ∙ sym (nothing e)
         at (Some k) e =
-            let i : R k = record { spot = record { place = row; name = name }; within = h; at = e } in
-            ap (λ (o : Option ℕ). option_map f (and_then o (number.if_loop (number.targets graph)))) e
-            ∙ (ap (option_map f) (loop_is graph k) ∙ (own_is k i ∙ ap (own_circle el spec.same_spot) (names.of_is program tree right k i)))
+            let i : R k = record { qualified = record { instance = row; name = name }; within = h; at = e } in
+            ap (λ (o : Option ℕ). option_map f (and_then o (number.if_on_cycle (number.targets graph)))) e
+            ∙ (own_is k i ∙ ap (own_cycle el spec.same_spot) (names.of_is program table right k i))
 
-    name_within : (row : ℕ) (name : Name) (c : ℕ) → number.name_circle tree (number.targets graph) row name ≡ Some c → R c
+    name_within : (row : ℕ) (name : Name) (c : ℕ) → number.name_cycle table (number.targets graph) row name ≡ Some c → R c
     name_within row name c e =
-        let r = then_some (slot_of tree (record { place = row; name = name })) (number.if_loop (number.targets graph)) c e in
-        let i = names.slot_in program tree right (record { place = row; name = name }) r.0 r.1 in
-        subst R (own (leads (number.targets graph) r.0 r.0) r.2) i
+        let r = then_some (slot_of table (record { instance = row; name = name })) (number.if_on_cycle (number.targets graph)) c e in
+        let i = names.slot_in program table right (record { instance = row; name = name }) r.0 r.1 in
+        subst R (own (on_cycle (number.targets graph) r.0) r.2) i
       where
         own : {k : ℕ} (b : Bool) → (if b then Some k else None) ≡ Some c → k ≡ c
         own true g = in_some g
         own false g = cc
 
-    abbrev place_circle : Place → Option (Spot Place)
-    place_circle place = first_some (λ e. own_circle el spec.same_spot (record { place = place; name = e.name })) (entries (module_at program place))
+    abbrev instance_cycle : Instance → Option (QualifiedName Instance)
+    instance_cycle instance = first_fault (λ e. own_cycle el spec.same_spot (record { instance = instance; name = e.name })) (entries (module_at program instance))
 
-    row_is : (row : ℕ) → row < length tree.rows → option_map f (number.row_circle tree (number.targets graph) row (entries_at tree.rows row)) ≡ place_circle (stands tree row)
+    row_is : (row : ℕ) → row < length table.rows → option_map f (number.row_cycle table (number.targets graph) row (entries_at table.rows row)) ≡ instance_cycle (instance_at table row)
     row_is row h =
-        mapped_first f (λ (e : Entry). number.name_circle tree (number.targets graph) row e.name) (λ (e : Entry). own_circle el spec.same_spot (record { place = stands tree row; name = e.name })) (λ e. name_is row h e.name) (entries_at tree.rows row)
-        ∙ ap (first_some (λ (e : Entry). own_circle el spec.same_spot (record { place = stands tree row; name = e.name }))) (names_at program tree.rows row right.rows h)
+        mapped_first f (λ (e : Entry). number.name_cycle table (number.targets graph) row e.name) (λ (e : Entry). own_cycle el spec.same_spot (record { instance = instance_at table row; name = e.name })) (λ e. name_is row h e.name) (entries_at table.rows row)
+        ∙ ap (first_fault (λ (e : Entry). own_cycle el spec.same_spot (record { instance = instance_at table row; name = e.name }))) (names_at program table.rows row right.rows h)
 
-    rows_are : (order : List ℕ) → AreRows tree order → option_map f (number.first_circle tree (number.targets graph) order) ≡ first_some (λ row. place_circle (stands tree row)) order
+    rows_are : (order : List ℕ) → AreRows table order → option_map f (number.first_cycle table (number.targets graph) order) ≡ first_fault (λ row. instance_cycle (instance_at table row)) order
     rows_are [] h = refl
-    rows_are (row ∷ order) h = at (number.row_circle tree (number.targets graph) row (entries_at tree.rows row)) (row_is row (h 0 0 (omega arith))) (rows_are order (λ k d g. h (suc k) d (omega arith)))
+    rows_are (row ∷ order) h = at (number.row_cycle table (number.targets graph) row (entries_at table.rows row)) (row_is row (h 0 0 (omega arith))) (rows_are order (λ k d g. h (suc k) d (omega arith)))
       where
-        at : (o : Option ℕ) → option_map f o ≡ place_circle (stands tree row) → option_map f (number.first_circle tree (number.targets graph) order) ≡ first_some (λ row. place_circle (stands tree row)) order →
-            option_map f (or_else o (number.first_circle tree (number.targets graph) order)) ≡ or_else (place_circle (stands tree row)) (first_some (λ row. place_circle (stands tree row)) order)
-        at None e g = g ∙ ap (λ (p : Option (Spot Place)). or_else p (first_some (λ row. place_circle (stands tree row)) order)) e
-        at (Some c) e g = ap (λ (p : Option (Spot Place)). or_else p (first_some (λ row. place_circle (stands tree row)) order)) e
+        at : (o : Option ℕ) → option_map f o ≡ instance_cycle (instance_at table row) → option_map f (number.first_cycle table (number.targets graph) order) ≡ first_fault (λ row. instance_cycle (instance_at table row)) order →
+            option_map f (or_else o (number.first_cycle table (number.targets graph) order)) ≡ or_else (instance_cycle (instance_at table row)) (first_fault (λ row. instance_cycle (instance_at table row)) order)
+        at None e g = g ∙ ap (λ (p : Option (QualifiedName Instance)). or_else p (first_fault (λ row. instance_cycle (instance_at table row)) order)) e
+        at (Some c) e g = ap (λ (p : Option (QualifiedName Instance)). or_else p (first_fault (λ row. instance_cycle (instance_at table row)) order)) e
 
-    first_within : (order : List ℕ) (c : ℕ) → number.first_circle tree (number.targets graph) order ≡ Some c → R c
-    first_within order c = first_is R (λ row. number.row_circle tree (number.targets graph) row (entries_at tree.rows row)) (λ row c. first_is R (λ (e : Entry). number.name_circle tree (number.targets graph) row e.name) (λ e c. name_within row e.name c) (entries_at tree.rows row) c) order c
+    first_within : (order : List ℕ) (c : ℕ) → number.first_cycle table (number.targets graph) order ≡ Some c → R c
+    first_within order c = first_is R (λ row. number.row_cycle table (number.targets graph) row (entries_at table.rows row)) (λ row c. first_is R (λ (e : Entry). number.name_cycle table (number.targets graph) row e.name) (λ e c. name_within row e.name c) (entries_at table.rows row) c) order c
 
-    -- ---- the fault of a circle
+    -- ---- the fault of a cycle
 
-    text_is : (k : ℕ) → R k → number.slot_text tree (slice_get tree.slots k) ≡ spec.spot_text (f k)
+    text_is : (k : ℕ) → R k → number.slot_text table (slice_get table.slots k) ≡ spec.qualified_text (f k)
     text_is k i =
-        let s = names.slot program tree right k i in
-        let r = row_at tree.rows s.row (names.row_within program tree right k i) in
-        ap (number.slot_text tree) (names.get program tree right k i)
-        ∙ (ap (number.row_name_text tree s.row s.name.now) r.1
-        ∙ ap spec.spot_text (ap (names.placed_spot program tree right) (names.spelt program tree right k i) ∙ sym (names.of_is program tree right k i)))
+        let s = names.slot program table right k i in
+        let r = row_at table.rows s.row (names.row_within program table right k i) in
+        ap (number.slot_text table) (names.get program table right k i)
+        ∙ (ap (number.row_name_text table s.row s.name.now) r.1
+        ∙ ap spec.qualified_text (ap (names.renumbered_name program table right) (names.spelt program table right k i) ∙ sym (names.of_is program table right k i)))
 
-    texts_are : (ks : List ℕ) → moved.AllIn f R ks → number.slot_texts tree ks ≡ map spec.spot_text (map f ks)
+    texts_are : (ks : List ℕ) → renaming.AllIn R ks → number.slot_texts table ks ≡ map spec.qualified_text (map f ks)
     texts_are [] a = refl
-    texts_are (k ∷ ks) a = ap (λ (t : List ℕ). t ∷ number.slot_texts tree ks) (text_is k a.0) ∙ ap (λ (ts : List (List ℕ)). spec.spot_text (f k) ∷ ts) (texts_are ks a.1)
+    texts_are (k ∷ ks) a = ap (λ (t : List ℕ). t ∷ number.slot_texts table ks) (text_is k a.0) ∙ ap (λ (ts : List (List ℕ)). spec.qualified_text (f k) ∷ ts) (texts_are ks a.1)
 
-    place_is : (k : ℕ) → (i : R k) → number.slot_place program tree (slice_get tree.slots k) ≡ spec.declared_at (module_at program (f k).place) (f k).name
-    place_is k i =
-        let s = names.slot program tree right k i in
-        ap (number.slot_place program tree) (names.get program tree right k i)
-        ∙ (ap (λ (m : Module). spec.declared_at m s.name.now) (module_is s.row (names.row_within program tree right k i))
-        ∙ ap (λ (x : Spot Place). spec.declared_at (module_at program x.place) x.name) (ap (names.placed_spot program tree right) (names.spelt program tree right k i) ∙ sym (names.of_is program tree right k i)))
+    span_is : (k : ℕ) → (i : R k) → number.slot_span program table (slice_get table.slots k) ≡ spec.declared_at (module_at program (f k).instance) (f k).name
+    span_is k i =
+        let s = names.slot program table right k i in
+        ap (number.slot_span program table) (names.get program table right k i)
+        ∙ (ap (λ (m : Module). spec.declared_at m s.name.now) (module_is s.row (names.row_within program table right k i))
+        ∙ ap (λ (x : QualifiedName Instance). spec.declared_at (module_at program x.instance) x.name) (ap (names.renumbered_name program table right) (names.spelt program table right k i) ∙ sym (names.of_is program table right k i)))
 
-    fault_is : (k : ℕ) → R k → number.circle_fault program tree graph k ≡ spec.circle_fault program (f k)
+    fault_is : (k : ℕ) → R k → number.cycle_fault program table (number.targets graph) k ≡ spec.cycle_fault program (f k)
     fault_is k i =
-        ap (λ (at : Span). fault.CyclicDefine (Some at) (joined (codes ",") (number.slot_texts tree (circle_of ek nat_eq k)))) (place_is k i)
-        ∙ ap (λ (ts : List (List ℕ)). fault.CyclicDefine (Some (spec.declared_at (module_at program (f k).place) (f k).name)) (joined (codes ",") ts))
-        (texts_are (circle_of ek nat_eq k) (circle_within k i) ∙ ap (map spec.spot_text) (circle_is k i))
+        ap (λ (at : Span). fault.CyclicDefine (Some at) (joined (codes ",") (number.slot_texts table (cycle_of sk nat_eq k)))) (span_is k i)
+        ∙ ap (λ (ts : List (List ℕ)). fault.CyclicDefine (Some (spec.declared_at (module_at program (f k).instance) (f k).name)) (joined (codes ",") ts))
+        (texts_are (cycle_of sk nat_eq k) (cycle_within k i) ∙ ap (map spec.qualified_text) (cycle_is k i))
 
-    module _ (table : List (Option ℕ)) (told : (k : ℕ) → entry table k ≡ heights ek k) where
+    module _ (solution : List (Option ℕ)) (known_of : (k : ℕ) → entry solution k ≡ heights ek k) where
       -- ---- nesting
 
-      high_is : (row : ℕ) → row < length tree.rows → (e : Expr) → number.high_row tree standing table row e ≡ spec.high_in program (stands tree row) e
+      high_is : (row : ℕ) → row < length table.rows → (e : Expr) → number.high_row table aliases solution row e ≡ spec.high_in program (instance_at table row) e
       high_is row h e =
-          let s = names.edges_same program tree right standing tells row h e in
-          ap spec.is_high (moved.tallest_same f R (entry table) (spec.program_heights program) (λ k r. told k ∙ heights_are k r) (edges_in tree standing row e) s.inside 0
+          let s = names.edges_same program table right aliases is_of row h e in
+          ap spec.is_high (moved.tallest_same f R (entry solution) (spec.program_heights program) (λ k r. known_of k ∙ heights_are k r) (edges_in table aliases row e) s.inside 0
           ∙ ap (tallest (spec.program_heights program) 0) s.same)
 
-      abbrev place_nested : Place → Option Span
-      place_nested p = spec.nested_in (spec.high_in program p) (spec.deep_in p) (module_at program p).sections
+      abbrev instance_nested : Instance → Option Span
+      instance_nested p = spec.nested_in (spec.high_in program p) (spec.deep_in p) (module_at program p).sections
 
-      nested_is : (row : ℕ) → row < length tree.rows → number.nested_row program tree standing table row ≡ place_nested (stands tree row)
+      nested_is : (row : ℕ) → row < length table.rows → number.nested_row program table aliases solution row ≡ instance_nested (instance_at table row)
       nested_is row h =
-          ap (λ (high : Expr → Bool). spec.nested_in high (number.deep_row tree row) (number.module_row program tree row).sections) (fun_ext (high_is row h))
-          ∙ (ap (λ (deep : Bool). spec.nested_in (spec.high_in program (stands tree row)) deep (number.module_row program tree row).sections) (deep_is row h)
-          ∙ ap (λ (m : Module). spec.nested_in (spec.high_in program (stands tree row)) (spec.deep_in (stands tree row)) m.sections) (module_is row h))
+          ap (λ (high : Expr → Bool). spec.nested_in high (number.deep_row table row) (number.module_row program table row).sections) (fun_ext (high_is row h))
+          ∙ (ap (λ (deep : Bool). spec.nested_in (spec.high_in program (instance_at table row)) deep (number.module_row program table row).sections) (deep_is row h)
+          ∙ ap (λ (m : Module). spec.nested_in (spec.high_in program (instance_at table row)) (spec.deep_in (instance_at table row)) m.sections) (module_is row h))
 
-      nested_are : (order : List ℕ) → AreRows tree order → number.nested_rows program tree standing table order ≡ first_some (λ row. place_nested (stands tree row)) order
+      nested_are : (order : List ℕ) → AreRows table order → number.nested_rows program table aliases solution order ≡ first_fault (λ row. instance_nested (instance_at table row)) order
       nested_are [] h = refl
       nested_are (row ∷ order) h =
-          ap (λ (o : Option Span). or_else o (number.nested_rows program tree standing table order)) (nested_is row (h 0 0 (omega arith)))
-          ∙ ap (or_else (place_nested (stands tree row))) (nested_are order (λ k d g. h (suc k) d (omega arith)))
+          ap (λ (o : Option Span). or_else o (number.nested_rows program table aliases solution order)) (nested_is row (h 0 0 (omega arith)))
+          ∙ ap (or_else (instance_nested (instance_at table row))) (nested_are order (λ k d g. h (suc k) d (omega arith)))
 
-      -- ---- both
+      -- ---- both checks
 
-      module _ (order : List ℕ) (rows : AreRows tree order) (ordered : map (stands tree) order ≡ instances program) where
-        circles_are : number.circles_fault program tree graph order ≡ and_then (spec.first_circle program) (λ spot. Some (spec.circle_fault program spot))
-        circles_are = at (number.first_circle tree (number.targets graph) order) refl ∙ ap (λ (o : Option (Spot Place)). and_then o (λ spot. Some (spec.circle_fault program spot))) whole
+      module _ (order : List ℕ) (rows : AreRows table order) (ordered : map (instance_at table) order ≡ instances program) where
+        cycles_are : number.cyclic_fault program table (number.targets graph) order ≡ and_then (spec.first_cycle program) (λ qualified. Some (spec.cycle_fault program qualified))
+        cycles_are = at (number.first_cycle table (number.targets graph) order) refl ∙ ap (λ (o : Option (QualifiedName Instance)). and_then o (λ qualified. Some (spec.cycle_fault program qualified))) whole
           where
-            whole : option_map f (number.first_circle tree (number.targets graph) order) ≡ spec.first_circle program
-            whole = rows_are order rows ∙ (sym (first_mapped place_circle (stands tree) order) ∙ ap (first_some place_circle) ordered)
+            whole : option_map f (number.first_cycle table (number.targets graph) order) ≡ spec.first_cycle program
+            whole = rows_are order rows ∙ (sym (first_mapped instance_cycle (instance_at table) order) ∙ ap (first_fault instance_cycle) ordered)
 
-            at : (o : Option ℕ) → number.first_circle tree (number.targets graph) order ≡ o → and_then o (λ k. Some (number.circle_fault program tree graph k)) ≡ and_then (option_map f o) (λ spot. Some (spec.circle_fault program spot))
+            at : (o : Option ℕ) → number.first_cycle table (number.targets graph) order ≡ o → and_then o (λ k. Some (number.cycle_fault program table (number.targets graph) k)) ≡ and_then (option_map f o) (λ qualified. Some (spec.cycle_fault program qualified))
             at None e = refl
             at (Some k) e = ap Some (fault_is k (first_within order k e))
 
-        nestings_are : number.nesting_fault program tree standing table order ≡ and_then (spec.nested_at program) (λ at. Some (fault.TooNested (Some at)))
-        nestings_are = ap (λ (o : Option Span). and_then o (λ at. Some (fault.TooNested (Some at)))) (nested_are order rows ∙ (sym (first_mapped place_nested (stands tree) order) ∙ ap (first_some place_nested) ordered))
+        nestings_are : number.nesting_fault program table aliases solution order ≡ and_then (spec.nested_at program) (λ at. Some (fault.TooNested (Some at)))
+        nestings_are = ap (λ (o : Option Span). and_then o (λ at. Some (fault.TooNested (Some at)))) (nested_are order rows ∙ (sym (first_mapped instance_nested (instance_at table) order) ∙ ap (first_fault instance_nested) ordered))
 
-        -- the faults by number are those of the program
-        pub faults_are : number.graph_fault program tree standing graph table order ≡ spec.cycles_fault program
-        faults_are = ap (λ (o : Option Fault). or_else o (number.nesting_fault program tree standing table order)) circles_are ∙ ap (or_else (and_then (spec.first_circle program) (λ spot. Some (spec.circle_fault program spot)))) nestings_are
+        -- the faults by slots are those of the program
+        pub faults_are : number.graph_fault program table aliases (number.targets graph) solution order ≡ spec.cycles_fault program
+        faults_are = ap (λ (o : Option Fault). or_else o (number.nesting_fault program table aliases solution order)) cycles_are ∙ ap (or_else (and_then (spec.first_cycle program) (λ qualified. Some (spec.cycle_fault program qualified)))) nestings_are

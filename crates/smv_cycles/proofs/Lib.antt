@@ -1,10 +1,8 @@
 pub mod NodeLemmas
 pub mod SectionLemmas
-pub mod CircleLemmas
-pub mod WayLemmas
 pub mod TextLemmas
 pub mod HeightLemmas
-pub mod LoopLemmas
 pub mod MovedLemmas
 pub mod ProgramLemmas
 pub mod FaultLemmas
+pub mod HeightLaw

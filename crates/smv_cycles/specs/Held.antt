@@ -1,44 +1,46 @@
--- What the names of instances read, by the numbers of their slots.
-use Rattle.std.specs.Prelude.{ℕ, Bool, true, false, not, if◌then◌else◌, List, map, Option, Some, None, slice_get}
+-- The dependencies of names, by slots.
+use Rattle.std.specs.Prelude.{ℕ, Bool, true, false, not, if◌then◌else◌, List, map, Option, Some, None, is_some, slice_get}
 use Rattle.std.specs.Option.{option_map}
 use Rattle.smv_ast.specs.declared.syntax.Expr.{Expr}
-use Rattle.smv_meaning.specs.declared.tree.Tree.{Tree}
-use Rattle.smv_meaning.specs.declared.tree.Slot.{Slot}
-use Rattle.smv_meaning.specs.declared.tree.Meant.{Meant as HeldMeant}
-use Rattle.smv_meaning.specs.declared.tree.Meant.TheVariants as held
+use Rattle.smv_meaning.specs.declared.table.InstanceTable.{InstanceTable}
+use Rattle.smv_meaning.specs.declared.table.Slot.{Slot}
+use Rattle.smv_meaning.specs.declared.table.Binding.{Binding as HeldBinding}
+use Rattle.smv_meaning.specs.declared.table.Binding.TheVariants as held
 use Rattle.smv_meaning.specs.Value.{Name, and_then}
-use Rattle.smv_meaning.specs.Least.{entry}
-use Rattle.smv_meaning.specs.Slots.{leads_to}
+use Rattle.fixpoint.specs.Fixpoints.{entry}
+use Rattle.smv_meaning.specs.Slots.{resolve_slot}
 use Rattle.smv_cycles.specs.declared.edges.Edge.{Edge as HeldEdge}
 use Rattle.smv_cycles.specs.Nodes.{Node, nodes_of}
-use Rattle.smv_cycles.specs.Reads.{Edge, is_some}
+use Rattle.smv_cycles.specs.Reads.{Edge}
 
--- what a held edge says
-abbrev pub edge_seen : HeldEdge → Edge ℕ
-edge_seen e = record { above = e.above; target = e.target }
+-- the edge that a Rust value represents
+abbrev pub edge_view : HeldEdge → Edge ℕ
+edge_view e = record { above = e.above; target = e.target }
 
--- what held edges say
-abbrev pub edges_seen : List HeldEdge → List (Edge ℕ)
-edges_seen = map edge_seen
+-- the edges that Rust values represent
+abbrev pub edges_view : List HeldEdge → List (Edge ℕ)
+edges_view = map edge_view
 
--- what a slot reads, if it stands for an expression, as a table tells
+-- the edges that a table has for a slot
 abbrev pub edges_at : List (Option (List HeldEdge)) → ℕ → Option (List (Edge ℕ))
-edges_at graph k = and_then (slice_get graph k) (option_map edges_seen)
+edges_at graph k = and_then (slice_get graph k) (option_map edges_view)
 
--- whether the slot of a number stands for an expression by what it is: a DEFINE does, and a formal that stands for no instance
-abbrev pub is_read : List (Option ℕ) → ℕ → HeldMeant → Bool
-is_read standing k (held.Define right) = true
-is_read standing k (held.Formal outer actual) = not (is_some (entry standing k))
-is_read standing k m = false
+-- whether a slot is bound to an expression: a definition is, and a formal that is no alias of an
+-- instance
+abbrev pub is_read : List (Option ℕ) → ℕ → HeldBinding → Bool
+is_read aliases k (held.Define right) = true
+is_read aliases k (held.Formal outer actual) = not (is_some (entry aliases k))
+is_read aliases k m = false
 
-module _ (tree : Tree) (standing : List (Option ℕ)) where
-  -- the slot of a number, if it stands for an expression
+module _ (table : InstanceTable) (aliases : List (Option ℕ)) where
+  -- the slot, if it is bound to an expression
   abbrev pub read_slot : ℕ → Option ℕ
-  read_slot k = and_then (slice_get tree.slots k) (λ slot. if is_read standing k slot.meant then Some k else None)
+  read_slot k = and_then (slice_get table.slots k)
+      (λ slot. if is_read aliases k slot.binding then Some k else None)
 
   -- the slot that a path of an instance reads, if it reads one
   abbrev pub slot_read : ℕ → Option (List Name) → Option ℕ
-  slot_read row path = and_then path (λ names. and_then (leads_to tree row names) read_slot)
+  slot_read row path = and_then path (λ names. and_then (resolve_slot table row names) read_slot)
 
   -- the edge of a node of an expression in an instance
   abbrev pub edge_in : ℕ → Node → Edge ℕ
@@ -48,12 +50,12 @@ module _ (tree : Tree) (standing : List (Option ℕ)) where
   abbrev pub edges_in : ℕ → Expr → List (Edge ℕ)
   edges_in row e = map (edge_in row) (nodes_of e)
 
-  -- what a name of an instance reads by what it is, if it stands for anything
-  abbrev pub edges_by : ℕ → HeldMeant → Option (List (Edge ℕ))
+  -- the edges of a name of an instance by its binding, if it has one
+  abbrev pub edges_by : ℕ → HeldBinding → Option (List (Edge ℕ))
   edges_by row (held.Define right) = Some (edges_in row right.now)
   edges_by row (held.Formal outer actual) = Some (edges_in outer actual.now)
   edges_by row m = None
 
-  -- what a slot reads
+  -- the edges of a slot
   abbrev pub slot_edges : Slot → Option (List (Edge ℕ))
-  slot_edges slot = edges_by slot.row slot.meant
+  slot_edges slot = edges_by slot.row slot.binding

@@ -1,8 +1,8 @@
 pub mod Nodes
 pub mod Reads
-pub mod ReadsGrow
+pub mod ReadsMonotone
 pub mod Held
 pub mod Cycles
 pub mod HeldCycles
-pub mod Ways
 pub mod HeldNests
+pub mod Heights

@@ -1,4 +1,4 @@
--- The nodes of an expression's tree, in the order of the text, each with the number of nodes above it.
+-- The nodes of an expression's tree in text order, each with its depth.
 use Rattle.std.specs.Prelude.{ℕ, suc, List, [], ◌∷◌, ◌++◌, map, Option, Some, None}
 use Rattle.std.specs.Option.{option_map}
 use Rattle.smv_ast.specs.declared.syntax.Expr.{Expr, fold-Expr, Expr-F}
@@ -7,38 +7,38 @@ use Rattle.smv_ast.specs.declared.syntax.Branch.{Branch, fold-Branch, Branch-F}
 use Rattle.smv_cycles.specs.declared.nodes.Node.{Node as Held}
 use Rattle.smv_meaning.specs.Value.{Name}
 
--- a node: how many nodes stand above it, and the path that it is, if it is one
+-- a node: its depth, and its path, if it is one
 pub record Node : Type 0 where
   pub above : ℕ
   pub path : Option (List Name)
 
--- what a held node says
-abbrev pub node_seen : Held → Node
-node_seen n = record { above = n.above; path = option_map (λ path. path.now.names) n.path }
+-- the node that a Rust value represents
+abbrev pub node_view : Held → Node
+node_view n = record { above = n.above; path = option_map (λ path. path.now.names) n.path }
 
--- what held nodes say
-abbrev pub nodes_seen : List Held → List Node
-nodes_seen = map node_seen
+-- the nodes that Rust values represent
+abbrev pub nodes_view : List Held → List Node
+nodes_view = map node_view
 
--- the nodes of a tree that has so many nodes above it
+-- the nodes of a tree, given the depth of its root
 abbrev pub Nodes : Type 0
 Nodes = ℕ → List Node
 
--- a node that is no path
+-- a node other than a path
 abbrev pub plain : ℕ → Node
 plain above = record { above = above; path = None }
 
--- the nodes of trees one after another
+-- the nodes of these trees, one after another
 abbrev pub each_of : List Nodes → Nodes
 each_of [] above = []
 each_of (nodes ∷ more) above = nodes above ++ each_of more above
 
--- the nodes of a set of values, which is none itself, of those of its parts
+-- the nodes of a set of values, which is no node itself, given those of its parts
 abbrev pub choice_nodes_layer : Choice-F Nodes Nodes Nodes → Nodes
 choice_nodes_layer (Choice-F.Each parts) above = each_of parts above
 choice_nodes_layer (Choice-F.Between low high) above = []
 
--- the nodes of an expression: it is one, and stands above those of its parts
+-- the nodes of an expression: itself, then those of its parts one deeper
 abbrev pub expr_nodes_layer : Expr-F Nodes Nodes Nodes → Nodes
 expr_nodes_layer Expr-F.True above = plain above ∷ []
 expr_nodes_layer Expr-F.False above = plain above ∷ []
@@ -52,11 +52,11 @@ expr_nodes_layer (Expr-F.Cases branches) above = plain above ∷ each_of branche
 expr_nodes_layer (Expr-F.Next a) above = plain above ∷ a (suc above)
 expr_nodes_layer (Expr-F.Pick choice) above = plain above ∷ choice (suc above)
 
--- the nodes of a branch, which is none itself: those of its condition, then those of its value
+-- the nodes of a branch, which is no node itself: those of its condition, then those of its value
 abbrev pub branch_nodes_layer : Branch-F Nodes Nodes Nodes → Nodes
 branch_nodes_layer branch above = branch.cond above ++ branch.value above
 
--- layer by layer, the parts first
+-- the nodes of an expression at a depth, by recursion on its parts
 abbrev pub nodes_below : Expr → Nodes
 nodes_below = fold-Expr Nodes Nodes Nodes choice_nodes_layer expr_nodes_layer branch_nodes_layer
 

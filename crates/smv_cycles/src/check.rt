@@ -1,45 +1,44 @@
-//! The checks of what reads itself and of what nests too deep.
+//! The checks of cyclic definitions and of nesting.
 
 ghost use Rattle.std.specs.Prelude.{◌≡◌, ◌<◌, IfOk, length, map};
-ghost use Rattle.smv_meaning.specs.Faults.{TellsFirst};
+ghost use Rattle.smv_meaning.specs.Faults.{ReportsFirst};
 ghost use Rattle.smv_meaning.specs.Instances.{instances};
 ghost use Rattle.smv_meaning.specs.Checking as checking;
 ghost use Rattle.smv_meaning.specs.Slots as slots;
-ghost use Rattle.smv_meaning.specs.Tree.{entries_at};
-ghost use Rattle.smv_meaning.specs.Worth as worth;
-ghost use Rattle.smv_meaning.specs.Entries.{all_seen};
+ghost use Rattle.smv_meaning.specs.InstanceTable.{entries_at};
+ghost use Rattle.smv_meaning.specs.Valuation as valuation;
+ghost use Rattle.smv_meaning.specs.Entries.{entries_view};
 ghost use Rattle.smv_cycles.specs.Cycles.{cycles_fault};
 ghost use Rattle.smv_cycles.specs.HeldCycles as held;
 
-use crate::circle::circle_of;
-use crate::edges::{Edge, graph_of, targets_of};
+use crate::edges::{graph_of, targets_of};
 use crate::heights::heights_of;
 use crate::nesting::nested_rows;
-use crate::places::slot_place;
-use crate::texts::circle_text;
-use smv_ast::{Fault, List, NoMemory, Program};
-use smv_loops::Loops;
+use crate::spans::slot_span;
+use crate::texts::cycle_text;
+use graph::Search;
+use smv_ast::{Fault, NoMemory, Program};
+use smv_meaning::aliases::slot_of;
 use smv_meaning::entries::Entry;
-use smv_meaning::net::path_texts;
-use smv_meaning::standing::slot_of;
-use smv_meaning::tree::Tree;
+use smv_meaning::instance_texts::path_texts;
+use smv_meaning::table::InstanceTable;
 use sqlite_items::at;
 use std::alloc::Global;
 
-/// The slot of a name of an instance, if the name reads itself.
-fn name_circle(
+/// The slot of a name of an instance, if it is on a cycle of definitions.
+fn name_cycle(
     alloc: Global,
-    tree: &Tree,
-    loops: &Loops,
+    table: &InstanceTable,
+    search: &Search,
     row: usize,
     name: &str,
 ) -> Result<Option<usize>, NoMemory>
-    requires has { slots.HasSlots tree.now }
-    ensures { IfOk result (λ k. k ≡ held.name_circle tree.now loops.now.graph.now row name.now) }
+    requires has { slots.HasSlots table.now }
+    ensures { IfOk result (λ k. k ≡ held.name_cycle table.now search.now.graph.now row name.now) }
 {
-    match slot_of(tree, row, name) {
+    match slot_of(table, row, name) {
         Some(k) => {
-            if loops.leads_back(alloc, k)? {
+            if search.is_on_cycle(alloc, k)? {
                 Ok(Some(k))
             } else {
                 Ok(None)
@@ -49,19 +48,20 @@ fn name_circle(
     }
 }
 
-/// The first of these names of an instance that reads itself.
-fn names_circle(
+/// The first of these names of an instance that is on a cycle.
+fn names_cycle(
     alloc: Global,
-    tree: &Tree,
-    loops: &Loops,
+    table: &InstanceTable,
+    search: &Search,
     row: usize,
     entries: &[Entry],
 ) -> Result<Option<usize>, NoMemory>
-    requires has { slots.HasSlots tree.now }
-    ensures { IfOk result (λ k. k ≡ held.row_circle tree.now loops.now.graph.now row (all_seen entries.now)) }
+    requires has { slots.HasSlots table.now }
+    ensures { IfOk result (λ k. k
+        ≡ held.row_cycle table.now search.now.graph.now row (entries_view entries.now)) }
 {
     for entry in entries {
-        match name_circle(alloc, tree, loops, row, entry.name.as_str())? {
+        match name_cycle(alloc, table, search, row, entry.name.as_str())? {
             Some(k) => return Ok(Some(k)),
             None => {}
         }
@@ -69,34 +69,35 @@ fn names_circle(
     Ok(None)
 }
 
-/// The first name of an instance that reads itself.
-fn row_circle(
+/// The first name of an instance that is on a cycle.
+fn row_cycle(
     alloc: Global,
-    tree: &Tree,
-    loops: &Loops,
+    table: &InstanceTable,
+    search: &Search,
     row: usize,
 ) -> Result<Option<usize>, NoMemory>
-    requires has { slots.HasSlots tree.now }
-    ensures { IfOk result (λ k. k ≡ held.row_circle tree.now loops.now.graph.now row (entries_at tree.now.rows row)) }
+    requires has { slots.HasSlots table.now }
+    ensures { IfOk result (λ k. k
+        ≡ held.row_cycle table.now search.now.graph.now row (entries_at table.now.rows row)) }
 {
-    match at(tree.rows.as_slice(), row).copied() {
-        Some(found) => names_circle(alloc, tree, loops, row, found.entries()),
+    match at(table.rows.as_slice(), row).copied() {
+        Some(found) => names_cycle(alloc, table, search, row, found.entries()),
         None => Ok(None),
     }
 }
 
-/// The first name that reads itself, in the order of these instances.
-fn first_circle(
+/// The first name that is on a cycle, in the order of these instances.
+fn first_cycle(
     alloc: Global,
-    tree: &Tree,
-    loops: &Loops,
+    table: &InstanceTable,
+    search: &Search,
     order: &[usize],
 ) -> Result<Option<usize>, NoMemory>
-    requires has { slots.HasSlots tree.now }
-    ensures { IfOk result (λ k. k ≡ held.first_circle tree.now loops.now.graph.now order.now) }
+    requires has { slots.HasSlots table.now }
+    ensures { IfOk result (λ k. k ≡ held.first_cycle table.now search.now.graph.now order.now) }
 {
     for row in order {
-        match row_circle(alloc, tree, loops, *row)? {
+        match row_cycle(alloc, table, search, *row)? {
             Some(k) => return Ok(Some(k)),
             None => {}
         }
@@ -104,43 +105,40 @@ fn first_circle(
     Ok(None)
 }
 
-/// The fault of a name that reads itself.
-fn circle_fault(
+/// The fault of a name that is on a cycle.
+fn cycle_fault(
     alloc: Global,
     program: &Program,
-    tree: &Tree,
-    graph: &[Option<List<Edge>>],
-    order: &[usize],
+    table: &InstanceTable,
+    search: &Search,
     k: usize,
 ) -> Result<Fault, NoMemory>
-    requires linked { worth.AreLinked tree.now.rows }
-    ensures { IfOk result (λ f. f ≡ held.circle_fault program.now tree.now graph.now k) }
+    requires linked { valuation.AreLinked table.now.rows }
+    ensures { IfOk result (λ f. f ≡ held.cycle_fault program.now table.now search.now.graph.now k) }
 {
-    let texts = path_texts(alloc, tree.rows.as_slice())?;
-    let circle = circle_of(alloc, graph, order, k)?;
-    let cycle = circle_text(alloc, tree, texts.as_slice(), circle.as_slice())?;
+    let texts = path_texts(alloc, table.rows.as_slice())?;
+    let members = search.cycle_of(alloc, k)?;
+    let cycle = cycle_text(alloc, table, texts.as_slice(), members.as_slice())?;
     Ok(Fault::CyclicDefine {
-        at: Some(slot_place(program, tree, k)),
+        at: Some(slot_span(program, table, k)),
         cycle,
     })
 }
 
-fn check_circles(
+fn check_cycles_of_names(
     alloc: Global,
     program: &Program,
-    tree: &Tree,
+    table: &InstanceTable,
     order: &[usize],
-    graph: &[Option<List<Edge>>],
-    loops: &Loops,
+    search: &Search,
 ) -> Result<(), Fault>
-    requires has { slots.HasSlots tree.now }
-    requires linked { worth.AreLinked tree.now.rows }
-    requires loops { loops.now.graph.now ≡ held.targets graph.now }
-    ensures { TellsFirst (held.circles_fault program.now tree.now graph.now order.now) result }
+    requires has { slots.HasSlots table.now }
+    requires linked { valuation.AreLinked table.now.rows }
+    ensures { ReportsFirst (held.cyclic_fault program.now table.now search.now.graph.now order.now) result }
 {
-    match first_circle(alloc, tree, loops, order)? {
+    match first_cycle(alloc, table, search, order)? {
         Some(k) => {
-            let fault = circle_fault(alloc, program, tree, graph, loops.order(), k)?;
+            let fault = cycle_fault(alloc, program, table, search, k)?;
             Err(fault)
         }
         None => Ok(()),
@@ -150,16 +148,17 @@ fn check_circles(
 fn check_nesting(
     alloc: Global,
     program: &Program,
-    tree: &Tree,
+    table: &InstanceTable,
     order: &[usize],
-    standing: &[Option<usize>],
+    aliases: &[Option<usize>],
     heights: &[Option<usize>],
 ) -> Result<(), Fault>
-    requires has { slots.HasSlots tree.now }
-    requires tells { slots.TellsStanding tree.now standing.now }
-    ensures { TellsFirst (held.nesting_fault program.now tree.now standing.now heights.now order.now) result }
+    requires has { slots.HasSlots table.now }
+    requires is_of { slots.AreAliases table.now aliases.now }
+    ensures { ReportsFirst (held.nesting_fault program.now table.now aliases.now heights.now
+        order.now) result }
 {
-    match nested_rows(alloc, program, tree, standing, heights, order)? {
+    match nested_rows(alloc, program, table, aliases, heights, order)? {
         Some(at) => Err(Fault::TooNested { at: Some(at) }),
         None => Ok(()),
     }
@@ -168,54 +167,52 @@ fn check_nesting(
 fn check_graph(
     alloc: Global,
     program: &Program,
-    tree: &Tree,
+    table: &InstanceTable,
     order: &[usize],
-    standing: &[Option<usize>],
-    graph: &[Option<List<Edge>>],
-    loops: &Loops,
+    aliases: &[Option<usize>],
+    search: &Search,
     heights: &[Option<usize>],
 ) -> Result<(), Fault>
-    requires has { slots.HasSlots tree.now }
-    requires tells { slots.TellsStanding tree.now standing.now }
-    requires linked { worth.AreLinked tree.now.rows }
-    requires loops { loops.now.graph.now ≡ held.targets graph.now }
-    ensures { TellsFirst (held.graph_fault program.now tree.now standing.now graph.now heights.now order.now) result }
+    requires has { slots.HasSlots table.now }
+    requires is_of { slots.AreAliases table.now aliases.now }
+    requires linked { valuation.AreLinked table.now.rows }
+    ensures { ReportsFirst (held.graph_fault program.now table.now aliases.now search.now.graph.now
+        heights.now order.now) result }
 {
-    check_circles(alloc, program, tree, order, graph, loops)?;
-    check_nesting(alloc, program, tree, order, standing, heights)
+    check_cycles_of_names(alloc, program, table, order, search)?;
+    check_nesting(alloc, program, table, order, aliases, heights)
 }
 
-/// Whether a DEFINE or a formal reads itself, directly or through others, in an instance, and then
-/// whether an expression of an instance is higher than 1,000 through what it reads, or the path of
-/// an instance has more than 1,000 names. The fault is the first of these: CyclicDefine with the
-/// circle of the first such name in the order of the instances, else TooNested at the first such
-/// item. Memory may run out. The table is to have each instance once.
+/// The first fault of the definitions of a program: CyclicDefine, with the cycle of the first name
+/// of an instance that depends on itself, else TooNested at the first item with an expression whose
+/// height, definitions and actuals expanded, passes 1,000, or with an instance whose path has more
+/// than 1,000 names. Each instance is to stand once in the table. The only other error is
+/// `NoMemory`.
 pub fn check_cycles(
     alloc: Global,
     program: &Program,
-    tree: &Tree,
+    table: &InstanceTable,
     order: &[usize],
-    standing: &[Option<usize>],
+    aliases: &[Option<usize>],
 ) -> Result<(), Fault>
-    requires right { checking.IsRight program.now tree.now }
-    requires one { held.OneEach tree.now }
-    requires rows { checking.AreRows tree.now order.now }
-    requires order { map (checking.stands tree.now) order.now ≡ instances program.now }
-    requires standing { slots.TellsStanding tree.now standing.now }
-    ensures { TellsFirst (cycles_fault program.now) result }
+    requires right { checking.IsTableOfProgram program.now table.now }
+    requires one { held.OneEach table.now }
+    requires rows { checking.AreRows table.now order.now }
+    requires order { map (checking.instance_at table.now) order.now ≡ instances program.now }
+    requires aliases { slots.AreAliases table.now aliases.now }
+    ensures { ReportsFirst (cycles_fault program.now) result }
 {
-    let graph = graph_of(alloc, tree, standing)?;
+    let graph = graph_of(alloc, table, aliases)?;
     let targets = targets_of(alloc, graph.as_slice())?;
-    let loops = Loops::of_graph(alloc, targets.as_slice())?;
-    let heights = heights_of(alloc, graph.as_slice(), loops.order())?;
+    let search = Search::of_graph(alloc, targets.as_slice())?;
+    let heights = heights_of(alloc, graph.as_slice(), search.order())?;
     check_graph(
         alloc,
         program,
-        tree,
+        table,
         order,
-        standing,
-        graph.as_slice(),
-        &loops,
+        aliases,
+        &search,
         heights.as_slice(),
     )
 }

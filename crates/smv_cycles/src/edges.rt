@@ -1,4 +1,4 @@
-//! What the names of instances read.
+//! The dependencies of the names of instances.
 
 ghost use Rattle.std.specs.Prelude.{◌≡◌, List, ℕ, IfOk, map};
 ghost use Rattle.std.specs.List.{flat_map};
@@ -10,37 +10,36 @@ ghost use Rattle.smv_cycles.specs.Nodes as trees;
 
 use crate::nodes::{Node, nodes_of};
 use smv_ast::{Expr, List, NoMemory};
-use smv_meaning::standing::leads;
-use smv_meaning::tree::{Meant, Slot, Tree};
+use smv_meaning::aliases::resolve;
+use smv_meaning::table::{Binding, InstanceTable, Slot};
 use sqlite_items::at;
 use std::alloc::Global;
 
-/// A node of an expression: how many nodes stand above it, and the slot that it reads, if it reads
-/// one.
+/// A node of an expression: its depth, and the slot that it reads, if it reads one.
 #[derive(Clone, Copy, Drop)]
 pub struct Edge {
     pub above: usize,
     pub target: Option<usize>,
 }
 
-/// Whether the slot of a number stands for an expression by what it is.
-fn is_read(standing: &[Option<usize>], k: usize, meant: Meant) -> bool
-    ensures { result ≡ spec.is_read standing.now k meant.entry }
+/// Whether the slot of this number is bound to an expression.
+fn is_read(aliases: &[Option<usize>], k: usize, binding: Binding) -> bool
+    ensures { result ≡ spec.is_read aliases.now k binding.entry }
 {
-    match meant {
-        Meant::Define(_) => true,
-        Meant::Formal(_, _) => at(standing, k).copied().flatten().is_none(),
+    match binding {
+        Binding::Define(_) => true,
+        Binding::Formal(_, _) => at(aliases, k).copied().flatten().is_none(),
         _ => false,
     }
 }
 
-/// The slot of a number, if it stands for an expression.
-fn read_slot(tree: &Tree, standing: &[Option<usize>], k: usize) -> Option<usize>
-    ensures { result ≡ spec.read_slot tree.now standing.now k }
+/// The slot of this number, if it is bound to an expression.
+fn read_slot(table: &InstanceTable, aliases: &[Option<usize>], k: usize) -> Option<usize>
+    ensures { result ≡ spec.read_slot table.now aliases.now k }
 {
-    match at(tree.slots.as_slice(), k).copied() {
+    match at(table.slots.as_slice(), k).copied() {
         Some(slot) => {
-            if is_read(standing, k, slot.meant) {
+            if is_read(aliases, k, slot.binding) {
                 Some(k)
             } else {
                 None
@@ -51,45 +50,52 @@ fn read_slot(tree: &Tree, standing: &[Option<usize>], k: usize) -> Option<usize>
 }
 
 /// The slot that a node of an expression reads in an instance, if it reads one.
-fn slot_read(tree: &Tree, standing: &[Option<usize>], row: usize, node: Node) -> Option<usize>
-    requires has { slots.HasSlots tree.now }
-    requires tells { slots.TellsStanding tree.now standing.now }
-    ensures { result ≡ spec.slot_read tree.now standing.now row (trees.node_seen node.entry).path }
+fn slot_read(
+    table: &InstanceTable,
+    aliases: &[Option<usize>],
+    row: usize,
+    node: Node,
+) -> Option<usize>
+    requires has { slots.HasSlots table.now }
+    requires is_of { slots.AreAliases table.now aliases.now }
+    ensures { result ≡ spec.slot_read table.now aliases.now row (trees.node_view node.entry).path }
 {
     match node.path {
-        Some(path) => match leads(tree, standing, row, path.names.as_slice()) {
-            Some(k) => read_slot(tree, standing, k),
+        Some(path) => match resolve(table, aliases, row, path.names.as_slice()) {
+            Some(k) => read_slot(table, aliases, k),
             None => None,
         },
         None => None,
     }
 }
 
-fn edge_in(tree: &Tree, standing: &[Option<usize>], row: usize, node: Node) -> Edge
-    requires has { slots.HasSlots tree.now }
-    requires tells { slots.TellsStanding tree.now standing.now }
-    ensures { spec.edge_seen result ≡ spec.edge_in tree.now standing.now row (trees.node_seen node.entry) }
+fn edge_in(table: &InstanceTable, aliases: &[Option<usize>], row: usize, node: Node) -> Edge
+    requires has { slots.HasSlots table.now }
+    requires is_of { slots.AreAliases table.now aliases.now }
+    ensures { spec.edge_view result
+        ≡ spec.edge_in table.now aliases.now row (trees.node_view node.entry) }
 {
     Edge {
         above: node.above,
-        target: slot_read(tree, standing, row, node),
+        target: slot_read(table, aliases, row, node),
     }
 }
 
 fn edges_of_nodes(
     alloc: Global,
-    tree: &Tree,
-    standing: &[Option<usize>],
+    table: &InstanceTable,
+    aliases: &[Option<usize>],
     row: usize,
     nodes: &[Node],
 ) -> Result<List<Edge>, NoMemory>
-    requires has { slots.HasSlots tree.now }
-    requires tells { slots.TellsStanding tree.now standing.now }
-    ensures { IfOk result (λ es. spec.edges_seen es ≡ map (spec.edge_in tree.now standing.now row) (trees.nodes_seen nodes.now)) }
+    requires has { slots.HasSlots table.now }
+    requires is_of { slots.AreAliases table.now aliases.now }
+    ensures { IfOk result (λ es. spec.edges_view es
+        ≡ map (spec.edge_in table.now aliases.now row) (trees.nodes_view nodes.now)) }
 {
     let mut edges = List::new(alloc);
     for node in nodes {
-        edges.push(edge_in(tree, standing, row, *node))?;
+        edges.push(edge_in(table, aliases, row, *node))?;
     }
     Ok(edges)
 }
@@ -97,55 +103,58 @@ fn edges_of_nodes(
 /// The edges of an expression in an instance, in the order of the text.
 pub fn edges_in(
     alloc: Global,
-    tree: &Tree,
-    standing: &[Option<usize>],
+    table: &InstanceTable,
+    aliases: &[Option<usize>],
     row: usize,
     e: &Expr,
 ) -> Result<List<Edge>, NoMemory>
-    requires has { slots.HasSlots tree.now }
-    requires tells { slots.TellsStanding tree.now standing.now }
-    ensures { IfOk result (λ es. spec.edges_seen es ≡ spec.edges_in tree.now standing.now row e.now) }
+    requires has { slots.HasSlots table.now }
+    requires is_of { slots.AreAliases table.now aliases.now }
+    ensures { IfOk result (λ es. spec.edges_view es
+        ≡ spec.edges_in table.now aliases.now row e.now) }
 {
     let nodes = nodes_of(alloc, e)?;
-    edges_of_nodes(alloc, tree, standing, row, nodes.as_slice())
+    edges_of_nodes(alloc, table, aliases, row, nodes.as_slice())
 }
 
-/// What a slot reads, if it stands for an expression.
+/// The edges of the expression that a slot is bound to, if it is bound to one.
 fn slot_edges(
     alloc: Global,
-    tree: &Tree,
-    standing: &[Option<usize>],
+    table: &InstanceTable,
+    aliases: &[Option<usize>],
     slot: Slot,
 ) -> Result<Option<List<Edge>>, NoMemory>
-    requires has { slots.HasSlots tree.now }
-    requires tells { slots.TellsStanding tree.now standing.now }
-    ensures { IfOk result (λ es. option_map spec.edges_seen es ≡ spec.slot_edges tree.now standing.now slot.entry) }
+    requires has { slots.HasSlots table.now }
+    requires is_of { slots.AreAliases table.now aliases.now }
+    ensures { IfOk result (λ es. option_map spec.edges_view es
+        ≡ spec.slot_edges table.now aliases.now slot.entry) }
 {
-    match slot.meant {
-        Meant::Define(right) => Ok(Some(edges_in(alloc, tree, standing, slot.row, right)?)),
-        Meant::Formal(outer, actual) => Ok(Some(edges_in(alloc, tree, standing, outer, actual)?)),
+    match slot.binding {
+        Binding::Define(right) => Ok(Some(edges_in(alloc, table, aliases, slot.row, right)?)),
+        Binding::Formal(outer, actual) => Ok(Some(edges_in(alloc, table, aliases, outer, actual)?)),
         _ => Ok(None),
     }
 }
 
-/// What each slot reads.
+/// The edges of each slot.
 pub fn graph_of(
     alloc: Global,
-    tree: &Tree,
-    standing: &[Option<usize>],
+    table: &InstanceTable,
+    aliases: &[Option<usize>],
 ) -> Result<List<Option<List<Edge>>>, NoMemory>
-    requires has { slots.HasSlots tree.now }
-    requires tells { slots.TellsStanding tree.now standing.now }
-    ensures { IfOk result (λ graph. map (option_map spec.edges_seen) graph ≡ map (spec.slot_edges tree.now standing.now) tree.now.slots) }
+    requires has { slots.HasSlots table.now }
+    requires is_of { slots.AreAliases table.now aliases.now }
+    ensures { IfOk result (λ graph. map (option_map spec.edges_view) graph
+        ≡ map (spec.slot_edges table.now aliases.now) table.now.slots) }
 {
     let mut graph = List::new(alloc);
-    for slot in tree.slots.as_slice() {
-        graph.push(slot_edges(alloc, tree, standing, *slot)?)?;
+    for slot in table.slots.as_slice() {
+        graph.push(slot_edges(alloc, table, aliases, *slot)?)?;
     }
     Ok(graph)
 }
 
-/// The slots that these nodes read.
+/// The slots that these edges read.
 fn targets_in(alloc: Global, edges: &[Edge]) -> Result<List<usize>, NoMemory>
     ensures { IfOk result (λ targets. targets ≡ flat_map (λ e. option_to_list e.target) edges.now) }
 {
@@ -169,7 +178,7 @@ fn slot_targets(alloc: Global, edges: &Option<List<Edge>>) -> Result<List<usize>
     }
 }
 
-/// Of each slot those that it reads.
+/// The successors of each slot: the slots that it reads.
 pub fn targets_of(
     alloc: Global,
     graph: &[Option<List<Edge>>],

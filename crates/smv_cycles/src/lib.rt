@@ -1,16 +1,13 @@
-//! Whether definitions read themselves, and how high expressions grow through what they read.
+//! Cycles of definitions, and the heights of expressions with definitions expanded.
 #![tactic(auto)]
 
 mod check;
-mod circle;
 mod edges;
 mod heights;
 mod nest;
 mod nesting;
 mod nodes;
-mod places;
+mod spans;
 mod texts;
-mod walk;
-mod ways;
 
 pub use check::check_cycles;

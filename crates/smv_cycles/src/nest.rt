@@ -1,18 +1,18 @@
-//! An instance of which it is asked whether its items nest too deep.
+//! The context in which the items of an instance are checked for nesting.
 
 ghost use Rattle.smv_meaning.specs.Slots as slots;
 
-use smv_meaning::tree::Tree;
+use smv_meaning::table::InstanceTable;
 
-/// An instance, with the heights of the names of all instances, and whether the path of an instance
-/// that it declares has more than 1,000 names.
+/// An instance, with the heights of all slots, and whether the path of an instance that it declares
+/// has more than 1,000 names.
 #[derive(Clone, Copy, Drop)]
 pub struct Nest<'t> {
-    pub tree: &'t Tree<'t, 't>,
-    pub standing: &'t [Option<usize>],
+    pub table: &'t InstanceTable<'t, 't>,
+    pub aliases: &'t [Option<usize>],
     pub heights: &'t [Option<usize>],
     pub row: usize,
     pub deep: bool,
-    ghost has: { slots.HasSlots tree.now },
-    ghost tells: { slots.TellsStanding tree.now standing.now },
+    ghost has: { slots.HasSlots table.now },
+    ghost is_of: { slots.AreAliases table.now aliases.now },
 }

@@ -1,8 +1,8 @@
-//! Items that nest too deep.
+//! Items whose nesting is too deep.
 
 ghost use Rattle.std.specs.Prelude.{◌≡◌, IfOk, map};
 ghost use Rattle.std.specs.List.{list_any};
-ghost use Rattle.smv_meaning.specs.Sections.{TellsSections};
+ghost use Rattle.smv_meaning.specs.Sections.{IsSectionIndex};
 ghost use Rattle.smv_meaning.specs.Slots as slots;
 ghost use Rattle.smv_cycles.specs.Cycles as spec;
 ghost use Rattle.smv_cycles.specs.HeldCycles as held;
@@ -11,12 +11,12 @@ ghost use Rattle.smv_cycles.specs.HeldNests as nests;
 use crate::edges::edges_in;
 use crate::heights::tallest;
 use crate::nest::Nest;
-use crate::places::sections_row;
+use crate::spans::sections_row;
 use smv_ast::{
     Assignment, Declaration, Declared, Definition, Expr, NoMemory, Program, Section, Span,
 };
 use smv_meaning::sections::SectionsByName;
-use smv_meaning::tree::Tree;
+use smv_meaning::table::InstanceTable;
 use sqlite_items::at;
 use std::alloc::Global;
 
@@ -25,13 +25,13 @@ fn is_high(height: Option<usize>) -> bool
 {
     match height {
         Some(height) => 1000 < height,
-        None => false,
+        None => true,
     }
 }
 
-/// The place of an item that is at fault.
-fn item_told(nested: bool, at: Span) -> Option<Span>
-    ensures { result ≡ spec.item_told nested at }
+/// The span of an item, if it is nested too deep.
+fn item_span(nested: bool, at: Span) -> Option<Span>
+    ensures { result ≡ spec.item_span nested at }
 {
     if nested { Some(at) } else { None }
 }
@@ -41,7 +41,7 @@ impl<'t> Nest<'t> {
     fn high(&self, alloc: Global, e: &Expr) -> Result<bool, NoMemory>
         ensures { IfOk result (λ b. b ≡ nests.high_nest self.now e.now) }
     {
-        let edges = edges_in(alloc, self.tree, self.standing, self.row, e)?;
+        let edges = edges_in(alloc, self.table, self.aliases, self.row, e)?;
         Ok(is_high(tallest(self.heights, edges.as_slice())?))
     }
 
@@ -59,7 +59,7 @@ impl<'t> Nest<'t> {
     fn single(&self, alloc: Global, e: &Expr, at: Span) -> Result<Option<Span>, NoMemory>
         ensures { IfOk result (λ s. s ≡ nests.nested_item self.now (spec.single_item e.now at)) }
     {
-        Ok(item_told(self.high(alloc, e)?, at))
+        Ok(item_span(self.high(alloc, e)?, at))
     }
 
     fn declaration(
@@ -67,7 +67,8 @@ impl<'t> Nest<'t> {
         alloc: Global,
         declaration: &Declaration,
     ) -> Result<Option<Span>, NoMemory>
-        ensures { IfOk result (λ s. s ≡ nests.nested_item self.now (spec.declaration_item declaration.now)) }
+        ensures { IfOk result (λ s. s
+            ≡ nests.nested_item self.now (spec.declaration_item declaration.now)) }
     {
         match &declaration.what {
             Declared::Plain(_) => Ok(None),
@@ -75,7 +76,7 @@ impl<'t> Nest<'t> {
                 if self.deep {
                     return Ok(Some(declaration.at));
                 }
-                Ok(item_told(self.any_high(alloc, actuals.as_slice())?, declaration.at))
+                Ok(item_span(self.any_high(alloc, actuals.as_slice())?, declaration.at))
             }
         }
     }
@@ -85,7 +86,8 @@ impl<'t> Nest<'t> {
         alloc: Global,
         declarations: &[Declaration],
     ) -> Result<Option<Span>, NoMemory>
-        ensures { IfOk result (λ s. s ≡ nests.nested_items self.now (map spec.declaration_item declarations.now)) }
+        ensures { IfOk result (λ s. s
+            ≡ nests.nested_items self.now (map spec.declaration_item declarations.now)) }
     {
         for declaration in declarations {
             match self.declaration(alloc, declaration)? {
@@ -101,7 +103,8 @@ impl<'t> Nest<'t> {
         alloc: Global,
         assignments: &[Assignment],
     ) -> Result<Option<Span>, NoMemory>
-        ensures { IfOk result (λ s. s ≡ nests.nested_items self.now (map spec.assignment_item assignments.now)) }
+        ensures { IfOk result (λ s. s
+            ≡ nests.nested_items self.now (map spec.assignment_item assignments.now)) }
     {
         for assignment in assignments {
             match self.single(alloc, &assignment.right, assignment.at)? {
@@ -117,7 +120,8 @@ impl<'t> Nest<'t> {
         alloc: Global,
         definitions: &[Definition],
     ) -> Result<Option<Span>, NoMemory>
-        ensures { IfOk result (λ s. s ≡ nests.nested_items self.now (map spec.definition_item definitions.now)) }
+        ensures { IfOk result (λ s. s
+            ≡ nests.nested_items self.now (map spec.definition_item definitions.now)) }
     {
         for definition in definitions {
             match self.single(alloc, &definition.right, definition.at)? {
@@ -142,9 +146,10 @@ impl<'t> Nest<'t> {
         }
     }
 
-    /// The first item of the sections that nests too deep.
+    /// The first item of the sections that is nested too deep.
     fn sections(&self, alloc: Global, sections: &[Section]) -> Result<Option<Span>, NoMemory>
-        ensures { IfOk result (λ s. s ≡ spec.nested_in (nests.high_nest self.now) self.now.deep sections.now) }
+        ensures { IfOk result (λ s. s
+            ≡ spec.nested_in (nests.high_nest self.now) self.now.deep sections.now) }
     {
         for section in sections {
             match self.section(alloc, section)? {
@@ -156,11 +161,11 @@ impl<'t> Nest<'t> {
     }
 }
 
-/// Whether the path of an instance that the instance of a row declares has more than 1,000 names.
-fn deep_row(tree: &Tree, row: usize) -> Result<bool, NoMemory>
-    ensures { IfOk result (λ b. b ≡ held.deep_row tree.now row) }
+/// Whether an instance declared by the instance of this row has a path of more than 1,000 names.
+fn deep_row(table: &InstanceTable, row: usize) -> Result<bool, NoMemory>
+    ensures { IfOk result (λ b. b ≡ held.deep_row table.now row) }
 {
-    match at(tree.rows.as_slice(), row).copied() {
+    match at(table.rows.as_slice(), row).copied() {
         Some(found) => match found.depth.checked_add(1) {
             Some(names) => Ok(1000 < names),
             // No instance in memory lies so deep.
@@ -170,48 +175,50 @@ fn deep_row(tree: &Tree, row: usize) -> Result<bool, NoMemory>
     }
 }
 
-/// The first item of the instance of a number that nests too deep.
+/// The first item of an instance that is nested too deep.
 fn nested_row(
     alloc: Global,
     program: &Program,
     sections: &SectionsByName,
-    tree: &Tree,
-    standing: &[Option<usize>],
+    table: &InstanceTable,
+    aliases: &[Option<usize>],
     heights: &[Option<usize>],
     row: usize,
 ) -> Result<Option<Span>, NoMemory>
-    requires sections { TellsSections program.now sections.now }
-    requires has { slots.HasSlots tree.now }
-    requires tells { slots.TellsStanding tree.now standing.now }
-    ensures { IfOk result (λ s. s ≡ held.nested_row program.now tree.now standing.now heights.now row) }
+    requires sections { IsSectionIndex program.now sections.now }
+    requires has { slots.HasSlots table.now }
+    requires is_of { slots.AreAliases table.now aliases.now }
+    ensures { IfOk result (λ s. s
+        ≡ held.nested_row program.now table.now aliases.now heights.now row) }
 {
-    let deep = deep_row(tree, row)?;
+    let deep = deep_row(table, row)?;
     let nest = Nest {
-        tree,
-        standing,
+        table,
+        aliases,
         heights,
         row,
         deep,
     };
-    nest.sections(alloc, sections_row(program, sections, tree, row))
+    nest.sections(alloc, sections_row(program, sections, table, row))
 }
 
-/// The first item that nests too deep, in the order of these instances.
+/// The first item that is nested too deep, in the order of these instances.
 pub fn nested_rows(
     alloc: Global,
     program: &Program,
-    tree: &Tree,
-    standing: &[Option<usize>],
+    table: &InstanceTable,
+    aliases: &[Option<usize>],
     heights: &[Option<usize>],
     order: &[usize],
 ) -> Result<Option<Span>, NoMemory>
-    requires has { slots.HasSlots tree.now }
-    requires tells { slots.TellsStanding tree.now standing.now }
-    ensures { IfOk result (λ s. s ≡ held.nested_rows program.now tree.now standing.now heights.now order.now) }
+    requires has { slots.HasSlots table.now }
+    requires is_of { slots.AreAliases table.now aliases.now }
+    ensures { IfOk result (λ s. s
+        ≡ held.nested_rows program.now table.now aliases.now heights.now order.now) }
 {
     let sections = SectionsByName::of_program(alloc, program)?;
     for row in order {
-        match nested_row(alloc, program, &sections, tree, standing, heights, *row)? {
+        match nested_row(alloc, program, &sections, table, aliases, heights, *row)? {
             Some(at) => return Ok(Some(at)),
             None => {}
         }

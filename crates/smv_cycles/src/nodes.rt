@@ -6,15 +6,14 @@ ghost use Rattle.smv_cycles.specs.Nodes as spec;
 use smv_ast::{Branch, Choice, Expr, List, NoMemory, Path};
 use std::alloc::Global;
 
-/// A node of an expression's tree: how many nodes stand above it, and the path that it is, if it is
-/// one.
+/// A node of an expression's tree: its depth, and its path, if it is one.
 #[derive(Clone, Copy, Drop)]
 pub struct Node<'a> {
     pub above: usize,
     pub path: Option<&'a Path>,
 }
 
-/// One more. No tree in memory is so deep that there is none.
+/// One more. No tree in memory is too deep for that.
 fn below(above: usize) -> Result<usize, NoMemory>
     ensures { IfOk result (λ d. d ≡ suc above) }
 {
@@ -30,8 +29,9 @@ fn push_node<'a>(
     above: usize,
     path: Option<&'a Path>,
 ) -> Result<(), NoMemory>
-    ensures { OnOk result (spec.nodes_seen nodes.new
-        ≡ spec.nodes_seen nodes.old ++ spec.node_seen (record { above = above; path = path.entry }) ∷ []) }
+    ensures { OnOk result (spec.nodes_view nodes.new
+        ≡ spec.nodes_view nodes.old
+        ++ spec.node_view (record { above = above; path = path.entry }) ∷ []) }
 {
     nodes.push(Node { above, path })?;
     Ok(())
@@ -43,7 +43,8 @@ fn push_choice<'a>(
     choice: &'a Choice,
     above: usize,
 ) -> Result<(), NoMemory>
-    ensures { OnOk result (spec.nodes_seen nodes.new ≡ spec.nodes_seen nodes.old ++ spec.choice_nodes choice.now above) }
+    ensures { OnOk result (spec.nodes_view nodes.new ≡ spec.nodes_view nodes.old
+        ++ spec.choice_nodes choice.now above) }
 {
     match choice {
         Choice::Each(parts) => push_each(nodes, parts.as_slice(), above),
@@ -57,8 +58,8 @@ fn push_each<'a>(
     parts: &'a [Expr],
     above: usize,
 ) -> Result<(), NoMemory>
-    ensures { OnOk result (spec.nodes_seen nodes.new
-        ≡ spec.nodes_seen nodes.old ++ spec.each_of (map spec.nodes_below parts.now) above) }
+    ensures { OnOk result (spec.nodes_view nodes.new
+        ≡ spec.nodes_view nodes.old ++ spec.each_of (map spec.nodes_below parts.now) above) }
 {
     for part in parts {
         push_below(nodes, part, above)?;
@@ -72,8 +73,8 @@ fn push_branches<'a>(
     branches: &'a [Branch],
     above: usize,
 ) -> Result<(), NoMemory>
-    ensures { OnOk result (spec.nodes_seen nodes.new
-        ≡ spec.nodes_seen nodes.old ++ spec.each_of (map spec.branch_nodes branches.now) above) }
+    ensures { OnOk result (spec.nodes_view nodes.new
+        ≡ spec.nodes_view nodes.old ++ spec.each_of (map spec.branch_nodes branches.now) above) }
 {
     for branch in branches {
         push_below(nodes, &branch.cond, above)?;
@@ -82,10 +83,11 @@ fn push_branches<'a>(
     Ok(())
 }
 
-/// Adds the nodes of the expression, in the order of the text.
+/// Adds the nodes of the expression, in text order.
 #[cycle(nodes)]
 fn push_below<'a>(nodes: &mut List<Node<'a>>, e: &'a Expr, above: usize) -> Result<(), NoMemory>
-    ensures { OnOk result (spec.nodes_seen nodes.new ≡ spec.nodes_seen nodes.old ++ spec.nodes_below e.now above) }
+    ensures { OnOk result (spec.nodes_view nodes.new ≡ spec.nodes_view nodes.old
+        ++ spec.nodes_below e.now above) }
 {
     let deeper = below(above)?;
     match e {
@@ -116,9 +118,9 @@ fn push_below<'a>(nodes: &mut List<Node<'a>>, e: &'a Expr, above: usize) -> Resu
     }
 }
 
-/// The nodes of an expression, in the order of the text.
+/// The nodes of an expression, in text order.
 pub fn nodes_of<'a>(alloc: Global, e: &'a Expr) -> Result<List<Node<'a>>, NoMemory>
-    ensures { IfOk result (λ nodes. spec.nodes_seen nodes ≡ spec.nodes_of e.now) }
+    ensures { IfOk result (λ nodes. spec.nodes_view nodes ≡ spec.nodes_of e.now) }
 {
     let mut nodes = List::new(alloc);
     push_below(&mut nodes, e, 0)?;

@@ -1,28 +1,29 @@
-//! Circles as they are printed.
+//! The printed form of cycles.
 
 ghost use Rattle.std.specs.Prelude.{◌≡◌, IfOk, OnOk, codes, slice_get, List, ℕ};
 ghost use Rattle.smv_ast.specs.PrintedExpr.{joined};
-ghost use Rattle.smv_meaning.specs.Worth.{SpellsNames};
+ghost use Rattle.smv_meaning.specs.Valuation.{SpellsNames};
 ghost use Rattle.smv_cycles.specs.HeldCycles as spec;
 
 use smv_ast::{List, NoMemory, Text, print_joined};
-use smv_meaning::net::text_below;
-use smv_meaning::tree::Tree;
+use smv_meaning::instance_texts::text_below;
+use smv_meaning::table::InstanceTable;
 use sqlite_items::at;
 use std::alloc::Global;
 
-/// The path of a name of the instance of a row; none where there is no row.
+/// The path of a name of a row; empty where there is no row.
 fn row_name_text(
     alloc: Global,
-    tree: &Tree,
+    table: &InstanceTable,
     texts: &[Text],
     row: usize,
     name: &str,
 ) -> Result<Text, NoMemory>
-    requires { SpellsNames tree.now.rows texts.now }
-    ensures { IfOk result (λ t. t ≡ spec.row_name_text tree.now row name.now (slice_get tree.now.rows row)) }
+    requires { SpellsNames table.now.rows texts.now }
+    ensures { IfOk result (λ t. t
+        ≡ spec.row_name_text table.now row name.now (slice_get table.now.rows row)) }
 {
-    let Some(found) = at(tree.rows.as_slice(), row).copied() else {
+    let Some(found) = at(table.rows.as_slice(), row).copied() else {
         return Text::from_str(alloc, "");
     };
     match at(texts, row) {
@@ -32,28 +33,33 @@ fn row_name_text(
 }
 
 /// The path of the name of a slot.
-fn slot_text(alloc: Global, tree: &Tree, texts: &[Text], k: usize) -> Result<Text, NoMemory>
-    requires { SpellsNames tree.now.rows texts.now }
-    ensures { IfOk result (λ t. t ≡ spec.slot_text tree.now (slice_get tree.now.slots k)) }
+fn slot_text(
+    alloc: Global,
+    table: &InstanceTable,
+    texts: &[Text],
+    k: usize,
+) -> Result<Text, NoMemory>
+    requires { SpellsNames table.now.rows texts.now }
+    ensures { IfOk result (λ t. t ≡ spec.slot_text table.now (slice_get table.now.slots k)) }
 {
-    match at(tree.slots.as_slice(), k).copied() {
-        Some(slot) => row_name_text(alloc, tree, texts, slot.row, slot.name.as_str()),
+    match at(table.slots.as_slice(), k).copied() {
+        Some(slot) => row_name_text(alloc, table, texts, slot.row, slot.name.as_str()),
         None => Text::from_str(alloc, ""),
     }
 }
 
 fn slot_texts(
     alloc: Global,
-    tree: &Tree,
+    table: &InstanceTable,
     texts: &[Text],
-    circle: &[usize],
+    cycle: &[usize],
 ) -> Result<List<Text>, NoMemory>
-    requires { SpellsNames tree.now.rows texts.now }
-    ensures { IfOk result (λ ts. ts ≡ spec.slot_texts tree.now circle.now) }
+    requires { SpellsNames table.now.rows texts.now }
+    ensures { IfOk result (λ ts. ts ≡ spec.slot_texts table.now cycle.now) }
 {
     let mut members = List::new(alloc);
-    for k in circle {
-        members.push(slot_text(alloc, tree, texts, *k)?)?;
+    for k in cycle {
+        members.push(slot_text(alloc, table, texts, *k)?)?;
     }
     Ok(members)
 }
@@ -67,15 +73,15 @@ fn joined_text(alloc: Global, members: &[Text]) -> Result<Text, NoMemory>
 }
 
 /// The paths of the names of slots, joined by commas.
-pub fn circle_text(
+pub fn cycle_text(
     alloc: Global,
-    tree: &Tree,
+    table: &InstanceTable,
     texts: &[Text],
-    circle: &[usize],
+    cycle: &[usize],
 ) -> Result<Text, NoMemory>
-    requires { SpellsNames tree.now.rows texts.now }
-    ensures { IfOk result (λ t. t ≡ joined (codes ",") (spec.slot_texts tree.now circle.now)) }
+    requires { SpellsNames table.now.rows texts.now }
+    ensures { IfOk result (λ t. t ≡ joined (codes ",") (spec.slot_texts table.now cycle.now)) }
 {
-    let members = slot_texts(alloc, tree, texts, circle)?;
+    let members = slot_texts(alloc, table, texts, cycle)?;
     joined_text(alloc, members.as_slice())
 }

@@ -1,4 +1,4 @@
--- The height of each form of tree, from its parts; and heights that are not told apart past the limit.
+-- The height of each form of tree, from its parts; and heights that are not distinguished past the limit.
 use Rattle.std.proofs.Common.{◌≡◌, ℕ, suc, max, Bool, true, false, ℤ, List, [], ◌∷◌, ◌++◌, map, fold, ap, ◌∙◌, arith}
 use Rattle.smv_ast.specs.declared.syntax.Op.{Op}
 use Rattle.smv_ast.specs.declared.syntax.Path.{Path}

@@ -1,4 +1,4 @@
--- Facts about what stands at the front of a text.
+-- Facts about what stands at the start of a text.
 use Rattle.std.proofs.Common.{◌≡◌, ℕ, ◌≤◌, ◌<◌, Bool, true, false, ◌||◌, List, [], ◌∷◌, length, take, take_while, refl, sym, ap, subst, arith}
 use Rattle.std.specs.Prelude.{nat_eq, codes, ◌==◌}
 use Rattle.std.specs.List.{starts_with}

@@ -1,10 +1,11 @@
 -- Recursion by the number of constructs that may still be opened.
-use Rattle.std.proofs.Common.{◌≡◌, ℕ, zero, suc, ◌+◌, ◌≤◌, Bool, true, false, List, [], ◌++◌, refl, ◌∙◌, ap, subst, arith, cond}
+use Rattle.std.proofs.Common.{◌≡◌, ℕ, zero, suc, ◌+◌, ◌≤◌, Bool, true, false, List, [], ◌∷◌, ◌++◌, Some, refl, ◌∙◌, ap, subst, arith, cond}
 use Rattle.smv_expr.specs.declared.kind.Kind.{Kind}
+use Rattle.smv_expr.specs.Lexicon.{Token}
 use Rattle.smv_expr.specs.Language.{Tokens, begins, next_of}
 use Rattle.smv_expr.specs.Reading.{Cause, Alike, Outcome, Reader, read_deep}
 use Rattle.smv_expr.specs.Reading.Outcome.{Read, Stop}
-use Rattle.smv_expr.specs.Reading.Cause.{Misfit, Wide, Deep}
+use Rattle.smv_expr.specs.Reading.Cause.{UnexpectedToken, Wide, Deep}
 use Rattle.smv_expr.proofs.Rules.{Good, IsLang, Rule, Starts, Covers, begins-append, begins-next}
 use Rattle.smv_expr.proofs.Inside.{Inside, itself, through}
 
@@ -23,19 +24,28 @@ pub record IsUnder {A : Type 0} (F E : ℕ → A → Tokens → Type 0) : Type 0
   pub inner : (m : ℕ) (a : A) (ts : Tokens) → E (suc m) a ts → F m a ts
   pub outer : (m : ℕ) (a : A) (ts : Tokens) → F m a ts → E (suc m) a ts
 
+-- some text that begins with the same token
+pub record Begins {A : Type 0} (E : ℕ → A → Tokens → Type 0) (ts : Tokens) : Type 0 where
+  pub token : Token
+  pub next : next_of ts ≡ Some token
+  pub depth : ℕ
+  pub value : A
+  pub more : Tokens
+  pub reads : E depth value (token ∷ more)
+
 module _ {A : Type 0} {F E : ℕ → A → Tokens → Type 0} (under : IsUnder F E) where
   covers_less : (limit m : ℕ) (cause : Cause) → Covers (suc limit) cause (suc m) → Covers limit cause m
-  covers_less limit m Misfit u = tt
+  covers_less limit m UnexpectedToken u = tt
   covers_less limit m Wide u = tt
   covers_less limit m Deep u = omega (arith, u)
 
   pub raised : (limit : ℕ) (g : A → List Kind) (ts : Tokens) (o : Outcome A) → Good limit F g ts o → Good (suc limit) E g ts o
-  raised limit g ts (Read a rest) w = record { front = w.front; split = w.split; reads = under.outer _ _ _ w.reads; only = only } where
-    only : (m : ℕ) (y f r : Tokens) (b : A) → next_of y ≡ next_of rest → f ++ r ≡ w.front ++ y → E m b f → begins (g b) r ≡ false → (b ≡ a) × (f ≡ w.front) × (r ≡ y)
+  raised limit g ts (Read a remaining) w = record { prefix = w.prefix; split = w.split; reads = under.outer _ _ _ w.reads; only = only } where
+    only : (m : ℕ) (y f r : Tokens) (b : A) → next_of y ≡ next_of remaining → f ++ r ≡ w.prefix ++ y → E m b f → begins (g b) r ≡ false → (b ≡ a) × (f ≡ w.prefix) × (r ≡ y)
     only zero y f r b n e h z = absurd (under.none b f h)
     only (suc m) y f r b n e h z = w.only m y f r b n e (under.inner m b f h) z
-  raised limit g ts (Stop cause rest) w = record { front = w.front; split = w.split; depth = suc w.depth; value = w.value; more = w.more; viable = under.outer _ _ _ w.viable; dead = dead } where
-    dead : (m : ℕ) (y f r : Tokens) (b : A) → Covers (suc limit) cause m → Alike cause y rest → f ++ r ≡ w.front ++ y → E m b f → begins (g b) r ≡ false → ⊥
+  raised limit g ts (Stop cause remaining) w = record { prefix = w.prefix; split = w.split; depth = suc w.depth; value = w.value; more = w.more; viable = under.outer _ _ _ w.viable; begun = w.begun; dead = dead } where
+    dead : (m : ℕ) (y f r : Tokens) (b : A) → Covers (suc limit) cause m → Alike cause y remaining → f ++ r ≡ w.prefix ++ y → E m b f → begins (g b) r ≡ false → ⊥
     dead zero y f r b u n e h z = under.none b f h
     dead (suc m) y f r b u n e h z = w.dead m y f r b (covers_less limit m cause u) n e (under.inner m b f h) z
 
@@ -43,26 +53,28 @@ module _ {A : Type 0} {F E : ℕ → A → Tokens → Type 0} (under : IsUnder F
   none_at zero a ts u h = under.none a ts h
   none_at (suc m) a ts u h = absurd (omega (arith, u))
 
-  -- At the limit nothing is read: what begins there nests too deep, and what does not begin there is a misfit.
-  pub deepest : (l : IsLang E) (first : List Kind) → Starts first E → (g : A → List Kind) (ts : Tokens) → Good 0 E g ts (read_deep first ts)
-  deepest l first starts g ts = by_first (begins first ts) refl where
-    by_first : (v : Bool) → begins first ts ≡ v → Good 0 E g ts (cond v (Stop Deep ts) (Stop Misfit ts))
-    by_first true e = record {
-      front = [];
+  -- At the limit nothing is read: what begins there nests too deep, and what does not begin there fits in no text.
+  pub deepest : (l : IsLang E) (first : List Kind) → Starts first E → (g : A → List Kind) (ts : Tokens) → (begins first ts ≡ true → Begins E ts) → Good 0 E g ts (read_deep first ts)
+  deepest l first starts g ts texts = by_first (begins first ts) refl where
+    by_first : (v : Bool) → begins first ts ≡ v → Good 0 E g ts (cond v (Stop Deep ts) (Stop UnexpectedToken ts))
+    by_first true e = let w = texts e in record {
+      prefix = [];
       split = refl;
-      depth = l.depth;
-      value = l.value;
-      more = l.text;
-      viable = l.reads;
+      depth = w.depth;
+      value = w.value;
+      more = w.token ∷ w.more;
+      viable = w.reads;
+      begun = (w.token, refl, w.next);
       dead = λ m y f r b u n e h z. none_at m b f u h;
     }
     by_first false e = record {
-      front = [];
+      prefix = [];
       split = refl;
       depth = l.depth;
       value = l.value;
       more = l.text;
       viable = l.reads;
+      begun = tt;
       dead = λ m y f r b u n e' h z. let e1 = begins-append first f r (starts.at m b f h) in let e2 = ap (begins first) e' ∙ begins-next first y ts n ∙ e in cc;
     }
 
@@ -71,5 +83,5 @@ pub deeper : {A : Type 0} {F E : ℕ → A → Tokens → Type 0} {limit : ℕ} 
 deeper {limit = limit} {g = g} {p = p} under l rule = record { lang = l; good = λ ts. raised under limit g ts (p ts) (rule.good ts) }
 
 -- the rule at the limit
-pub at_limit : {A : Type 0} {F E : ℕ → A → Tokens → Type 0} (first : List Kind) (g : A → List Kind) → IsUnder F E → IsLang E → Starts first E → Rule 0 E g (read_deep first)
-at_limit first g under l starts = record { lang = l; good = λ ts. deepest under l first starts g ts }
+pub at_limit : {A : Type 0} {F E : ℕ → A → Tokens → Type 0} (first : List Kind) (g : A → List Kind) → IsUnder F E → IsLang E → Starts first E → ((ts : Tokens) → begins first ts ≡ true → Begins E ts) → Rule 0 E g (read_deep first)
+at_limit first g under l starts texts = record { lang = l; good = λ ts. deepest under l first starts g ts (texts ts) }

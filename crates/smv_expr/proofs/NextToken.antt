@@ -6,13 +6,13 @@ use Rattle.smv_expr.specs.declared.kind.Kind.{Kind}
 use Rattle.smv_expr.specs.declared.kind.Kind.TheVariants as k
 use Rattle.smv_expr.specs.declared.lexeme.Lexeme.{Lexeme}
 use Rattle.smv_expr.specs.declared.cursor.Cursor.TheInside.{Inside}
-use Rattle.smv_expr.specs.Ahead.{tokens_left, IsReady, IsNext}
+use Rattle.smv_expr.specs.CursorView.{tokens_left, IsReady, IsNext}
 use Rattle.smv_expr.specs.Lexicon.{Bytes, Token, IsNumeral, same_kind, tokens_from}
-use Rattle.smv_expr.specs.Language.{Tokens, begins, begins_name, named, place_of, has, kinds_of, find_kind, of_kind, next_of, kind_of, number_of}
+use Rattle.smv_expr.specs.Language.{Tokens, begins, begins_name, named, span_of, has, kinds_of, find_kind, of_kind, next_of, kind_of, number_of}
 use Rattle.smv_expr.specs.Reading.{read_if, read_leaf, read_one_of, read_digits, read_numeral}
 use Rattle.smv_expr.specs.ExprReaders.{read_limited}
 use Rattle.smv_expr.specs.Reading.Outcome.{Read, Stop}
-use Rattle.smv_expr.specs.Reading.Cause.{Misfit, Wide}
+use Rattle.smv_expr.specs.Reading.Cause.{UnexpectedToken, Wide}
 use Rattle.smv_expr.proofs.Lexemes.{Fits}
 use Rattle.smv_expr.proofs.Spellings.{name_ascii, left_out_ascii, numeral_digits}
 use Rattle.smv_expr.proofs.Cutting.{token_at, cut_token, first_fits}
@@ -22,16 +22,16 @@ use Rattle.smv_expr.proofs.Cutting.{token_at, cut_token, first_fits}
 is_next_by : (text : Bytes) (next next' : Option Lexeme) → IsNext text next → next ≡ next' → IsNext text next'
 is_next_by text next next' h e = subst (IsNext text) e h
 
--- the first token, and the tokens behind it
+-- the first token, and the tokens after it
 pub first_token : (c : Inside) (l : Lexeme) → IsReady c → c.next ≡ Some l
-    → tokens_left c ≡ token_at c.file c.at l c.rest.now ∷ tokens_from c.file (c.at + l.len) (drop l.len c.rest.now)
-first_token c l ready is = let h = is_next_by c.rest.now c.next (Some l) ready.1 is in cut_token c.file c.at l c.rest.now h.0 h.2 h.1
+    → tokens_left c ≡ token_at c.file c.at l c.remaining.now ∷ tokens_from c.file (c.at + l.len) (drop l.len c.remaining.now)
+first_token c l ready is = let h = is_next_by c.remaining.now c.next (Some l) ready.1 is in cut_token c.file c.at l c.remaining.now h.0 h.2 h.1
 
 pub no_token : (c : Inside) → IsReady c → c.next ≡ None → tokens_left c ≡ []
-no_token c ready is = ap (tokens_from c.file c.at) (is_next_by c.rest.now c.next None ready.1 is)
+no_token c ready is = ap (tokens_from c.file c.at) (is_next_by c.remaining.now c.next None ready.1 is)
 
-pub next_fits : (c : Inside) (l : Lexeme) → IsReady c → c.next ≡ Some l → Fits c.rest.now l
-next_fits c l ready is = let h = is_next_by c.rest.now c.next (Some l) ready.1 is in first_fits l c.rest.now h.0 h.2
+pub next_fits : (c : Inside) (l : Lexeme) → IsReady c → c.next ≡ Some l → Fits c.remaining.now l
+next_fits c l ready is = let h = is_next_by c.remaining.now c.next (Some l) ready.1 is in first_fits l c.remaining.now h.0 h.2
 
 is_true : (r : Bool) → false ≡ not r → IsTrue r
 is_true true e = search rules
@@ -52,15 +52,15 @@ pub leaf_read : {A : Type 0} (kind : Kind) (f : Token → A) (ts : Tokens) (a : 
 leaf_read kind f [] a h e = cc
 leaf_read kind f (t ∷ ts) a h e = ap (λ found. read_if found (t ∷ ts) ts) (ap (λ v. cond v (Some (f t)) None) h ∙ e)
 
-pub leaf_stop : {A : Type 0} (kind : Kind) (f : Token → A) (ts : Tokens) → begins (kind ∷ []) ts ≡ false → read_leaf (of_kind kind f) ts ≡ Stop Misfit ts
+pub leaf_stop : {A : Type 0} (kind : Kind) (f : Token → A) (ts : Tokens) → begins (kind ∷ []) ts ≡ false → read_leaf (of_kind kind f) ts ≡ Stop UnexpectedToken ts
 leaf_stop kind f [] h = refl
 leaf_stop kind f (t ∷ ts) h = ap (λ found. read_if found (t ∷ ts) ts) (ap (λ v. cond v (Some (f t)) None) h)
 
-pub named_read : (name : Bytes) (ts : Tokens) (at : Span) → begins_name name ts ≡ true → option_map place_of (next_of ts) ≡ Some at → read_leaf (named name) ts ≡ Read at (drop 1 ts)
+pub named_read : (name : Bytes) (ts : Tokens) (at : Span) → begins_name name ts ≡ true → option_map span_of (next_of ts) ≡ Some at → read_leaf (named name) ts ≡ Read at (drop 1 ts)
 named_read name [] at h e = cc
 named_read name (t ∷ ts) at h e = ap (λ found. read_if found (t ∷ ts) ts) (ap (λ v. cond v (Some t.at) None) h ∙ e)
 
-pub named_stop : (name : Bytes) (ts : Tokens) → begins_name name ts ≡ false → read_leaf (named name) ts ≡ Stop Misfit ts
+pub named_stop : (name : Bytes) (ts : Tokens) → begins_name name ts ≡ false → read_leaf (named name) ts ≡ Stop UnexpectedToken ts
 named_stop name [] h = refl
 named_stop name (t ∷ ts) h = ap (λ found. read_if found (t ∷ ts) ts) (ap (λ v. cond v (Some t.at) None) h)
 
@@ -91,7 +91,7 @@ table_other {A = A} table (t ∷ ts) kind h e =
     let same : find_kind table t.kind ≡ None = let one : t.kind ≡ kind = cc in ap (find_kind table) one ∙ e in
     sym (find_has table t.kind) ∙ ap (is_some {T = A}) same
 
-pub table_stops : {A : Type 0} (table : List (Kind × A)) (ts : Tokens) → begins (kinds_of table) ts ≡ false → read_one_of table ts ≡ Stop Misfit ts
+pub table_stops : {A : Type 0} (table : List (Kind × A)) (ts : Tokens) → begins (kinds_of table) ts ≡ false → read_one_of table ts ≡ Stop UnexpectedToken ts
 table_stops table [] h = refl
 table_stops {A = A} table (t ∷ ts) h = ap (λ found. read_if found (t ∷ ts) ts) (is_none_found (find_kind table t.kind) (find_has table t.kind ∙ h)) where
   is_none_found : (found : Option A) → is_some found ≡ false → found ≡ None
@@ -118,14 +118,14 @@ pub first_kind : (c : Inside) (l : Lexeme) (kind : Kind) → IsReady c → c.nex
 unfolding token_at
 first_kind c l kind ready is = ap (begins (kind ∷ [])) (first_token c l ready is) ∙ has_one l.kind kind
 
-pub name_is_ascii : (c : Inside) (l : Lexeme) → IsReady c → c.next ≡ Some l → begins (k.Name ∷ []) (tokens_left c) ≡ true → All (λ b. b < 128) (take l.len c.rest.now)
-name_is_ascii c l ready is h = let n = is_next_by c.rest.now c.next (Some l) ready.1 is in name_ascii l c.rest.now n.0 n.2 (sym (first_kind c l k.Name ready is) ∙ h)
+pub name_is_ascii : (c : Inside) (l : Lexeme) → IsReady c → c.next ≡ Some l → begins (k.Name ∷ []) (tokens_left c) ≡ true → All (λ b. b < 128) (take l.len c.remaining.now)
+name_is_ascii c l ready is h = let n = is_next_by c.remaining.now c.next (Some l) ready.1 is in name_ascii l c.remaining.now n.0 n.2 (sym (first_kind c l k.Name ready is) ∙ h)
 
-pub left_out_is_ascii : (c : Inside) (l : Lexeme) → IsReady c → c.next ≡ Some l → begins (k.LeftOut ∷ []) (tokens_left c) ≡ true → All (λ b. b < 128) (take l.len c.rest.now)
-left_out_is_ascii c l ready is h = let n = is_next_by c.rest.now c.next (Some l) ready.1 is in left_out_ascii l c.rest.now n.0 n.2 (sym (first_kind c l k.LeftOut ready is) ∙ h)
+pub left_out_is_ascii : (c : Inside) (l : Lexeme) → IsReady c → c.next ≡ Some l → begins (k.LeftOut ∷ []) (tokens_left c) ≡ true → All (λ b. b < 128) (take l.len c.remaining.now)
+left_out_is_ascii c l ready is h = let n = is_next_by c.remaining.now c.next (Some l) ready.1 is in left_out_ascii l c.remaining.now n.0 n.2 (sym (first_kind c l k.LeftOut ready is) ∙ h)
 
-pub numeral_is_digits : (c : Inside) (l : Lexeme) → IsReady c → c.next ≡ Some l → begins (k.Numeral ∷ []) (tokens_left c) ≡ true → IsNumeral (take l.len c.rest.now)
-numeral_is_digits c l ready is h = let n = is_next_by c.rest.now c.next (Some l) ready.1 is in numeral_digits l c.rest.now n.0 n.2 (sym (first_kind c l k.Numeral ready is) ∙ h)
+pub numeral_is_digits : (c : Inside) (l : Lexeme) → IsReady c → c.next ≡ Some l → begins (k.Numeral ∷ []) (tokens_left c) ≡ true → IsNumeral (take l.len c.remaining.now)
+numeral_is_digits c l ready is h = let n = is_next_by c.remaining.now c.next (Some l) ready.1 is in numeral_digits l c.remaining.now n.0 n.2 (sym (first_kind c l k.Numeral ready is) ∙ h)
 
 pub ends_where_none : (c : Inside) → IsReady c → (r : Bool) → is_some c.next ≡ not r → IsTrue r ↔ (tokens_left c ≡ [])
 ends_where_none c ready r e = by_next c.next refl where

@@ -3,44 +3,57 @@
 use Rattle.std.proofs.Common.{◌≡◌, ℕ, zero, suc, ◌+◌, ◌≤◌, Bool, true, false, List, [], ◌∷◌, ◌++◌, length, Option, Some, None, refl, sym, ◌∙◌, ap, subst, append_assoc, arith, length-append, inl, inr, cond}
 use Rattle.smv_expr.specs.declared.kind.Kind.{Kind}
 use Rattle.smv_expr.specs.Lexicon.{Token}
-use Rattle.smv_expr.specs.Language.{Tokens, leaf, dep, both, many, either, made, nothing, begins, has, next_of}
-use Rattle.smv_expr.specs.Reading.{Cause, Alike, Outcome, Reader, and_then, read_if, read_leaf, read_dep, read_both, read_made, read_either, read_nothing}
+use Rattle.smv_expr.specs.Language.{Tokens, leaf, dep, both, many, either, mapped, nothing, begins, has, next_of}
+use Rattle.smv_expr.specs.Reading.{Cause, Alike, Outcome, Reader, and_then, read_if, read_leaf, read_dep, read_both, read_mapped, read_either, read_nothing}
 use Rattle.smv_expr.specs.Reading.Outcome.{Read, Stop}
-use Rattle.smv_expr.specs.Reading.Cause.{Misfit, Wide, Deep}
+use Rattle.smv_expr.specs.Reading.Cause.{UnexpectedToken, Wide, Deep}
 
 -- ---- what a reader owes
 
--- A language here is a family: the number is how deep its texts may nest. `goes` is the set of kinds with which a
+-- A language here is a family: the number is how deep its texts may nest. `follow` is the set of kinds with which a
 -- text that stands for a value would go on, so that no text ends before one of them.
 
--- The reader takes some of the tokens as a value, and leaves the rest as they are.
-pub record Took {A : Type 0} (limit : ℕ) (L : ℕ → A → Tokens → Type 0) (goes : A → List Kind) (ts : Tokens) (a : A) (rest : Tokens) : Type 0 where
-  pub front : Tokens
-  pub split : ts ≡ front ++ rest
-  pub reads : L limit a front
-  -- whatever comes behind the next token, there is no other way to read it
-  pub only : (m : ℕ) (y f r : Tokens) (b : A) → next_of y ≡ next_of rest → f ++ r ≡ front ++ y → L m b f → begins (goes b) r ≡ false
-      → (b ≡ a) × (f ≡ front) × (r ≡ y)
+-- The reader takes some of the tokens as a value, and leaves the remaining ones as they are.
+pub record Took {A : Type 0} (limit : ℕ) (L : ℕ → A → Tokens → Type 0) (follow : A → List Kind) (ts : Tokens) (a : A) (remaining : Tokens) : Type 0 where
+  pub prefix : Tokens
+  pub split : ts ≡ prefix ++ remaining
+  pub reads : L limit a prefix
+  -- whatever comes after the next token, there is no other way to read it
+  pub only : (m : ℕ) (y f r : Tokens) (b : A) → next_of y ≡ next_of remaining → f ++ r ≡ prefix ++ y → L m b f → begins (follow b) r ≡ false
+      → (b ≡ a) × (f ≡ prefix) × (r ≡ y)
 
 -- at which depths nothing can be read, for a cause
 abbrev pub Covers : ℕ → Cause → ℕ → Type 0
-Covers limit Misfit m = Unit {0}
+Covers limit UnexpectedToken m = Unit {0}
 Covers limit Wide m = Unit {0}
 Covers limit Deep m = m ≤ limit
 
--- The reader stops at the rest: what stands before it can be gone on with, and not with the next token.
-pub record Halts {A : Type 0} (limit : ℕ) (L : ℕ → A → Tokens → Type 0) (goes : A → List Kind) (cause : Cause) (ts rest : Tokens) : Type 0 where
-  pub front : Tokens
-  pub split : ts ≡ front ++ rest
+-- where too many constructs are open, what goes on begins with the next token
+abbrev pub Begun : Cause → Tokens → Tokens → Type 0
+Begun UnexpectedToken more remaining = Unit {0}
+Begun Wide more remaining = Unit {0}
+Begun Deep more remaining = (t : Token) × (next_of more ≡ Some t) × (next_of remaining ≡ Some t)
+
+begun_more : (cause : Cause) (more x remaining : Tokens) → Begun cause more remaining → Begun cause (more ++ x) remaining
+begun_more UnexpectedToken more x remaining h = tt
+begun_more Wide more x remaining h = tt
+begun_more Deep [] x remaining h = cc
+begun_more Deep (t ∷ more) x remaining h = h
+
+-- The reader stops at the remaining tokens: the tokens before them are a viable prefix, and with the next token they are none.
+pub record Halts {A : Type 0} (limit : ℕ) (L : ℕ → A → Tokens → Type 0) (follow : A → List Kind) (cause : Cause) (ts remaining : Tokens) : Type 0 where
+  pub prefix : Tokens
+  pub split : ts ≡ prefix ++ remaining
   pub depth : ℕ
   pub value : A
   pub more : Tokens
-  pub viable : L depth value (front ++ more)
-  pub dead : (m : ℕ) (y f r : Tokens) (b : A) → Covers limit cause m → Alike cause y rest → f ++ r ≡ front ++ y → L m b f → begins (goes b) r ≡ false → ⊥
+  pub viable : L depth value (prefix ++ more)
+  pub begun : Begun cause more remaining
+  pub dead : (m : ℕ) (y f r : Tokens) (b : A) → Covers limit cause m → Alike cause y remaining → f ++ r ≡ prefix ++ y → L m b f → begins (follow b) r ≡ false → ⊥
 
 abbrev pub Good : {A : Type 0} → ℕ → (ℕ → A → Tokens → Type 0) → (A → List Kind) → Tokens → Outcome A → Type 0
-Good limit L goes ts (Read a rest) = Took limit L goes ts a rest
-Good limit L goes ts (Stop cause rest) = Halts limit L goes cause ts rest
+Good limit L follow ts (Read a remaining) = Took limit L follow ts a remaining
+Good limit L follow ts (Stop cause remaining) = Halts limit L follow cause ts remaining
 
 -- deeper nesting only adds texts, and some text there is
 pub record IsLang {A : Type 0} (L : ℕ → A → Tokens → Type 0) : Type 0 where
@@ -51,26 +64,26 @@ pub record IsLang {A : Type 0} (L : ℕ → A → Tokens → Type 0) : Type 0 wh
   pub reads : L depth value text
 
 -- The rule of a reader: it reads the language, exactly.
-pub record Rule {A : Type 0} (limit : ℕ) (L : ℕ → A → Tokens → Type 0) (goes : A → List Kind) (p : Reader A) : Type 0 where
+pub record Rule {A : Type 0} (limit : ℕ) (L : ℕ → A → Tokens → Type 0) (follow : A → List Kind) (p : Reader A) : Type 0 where
   pub lang : IsLang L
-  pub good : (ts : Tokens) → Good limit L goes ts (p ts)
+  pub good : (ts : Tokens) → Good limit L follow ts (p ts)
 
 -- a text of the language begins with one of these kinds
 pub record Starts {A : Type 0} (set : List Kind) (L : ℕ → A → Tokens → Type 0) : Type 0 where
   pub at : (m : ℕ) (a : A) (f : Tokens) → L m a f → begins set f ≡ true
 
--- a text of the language, with what comes behind it, does not begin with one of these kinds
-pub record Leaves {A : Type 0} (set : List Kind) (goes : A → List Kind) (L : ℕ → A → Tokens → Type 0) : Type 0 where
-  pub at : (m : ℕ) (b : A) (f r : Tokens) → L m b f → begins (goes b) r ≡ false → begins set (f ++ r) ≡ false
+-- a text of the language, with what comes after it, does not begin with one of these kinds
+pub record Leaves {A : Type 0} (set : List Kind) (follow : A → List Kind) (L : ℕ → A → Tokens → Type 0) : Type 0 where
+  pub at : (m : ℕ) (b : A) (f r : Tokens) → L m b f → begins (follow b) r ≡ false → begins set (f ++ r) ≡ false
 
 -- a kind with which the one goes on, the other goes on with too
-pub record GoesWithin {A B : Type 0} (fun : A → B) (goes : A → List Kind) (goes' : B → List Kind) : Type 0 where
-  pub at : (a : A) (r : Tokens) → begins (goes' (fun a)) r ≡ false → begins (goes a) r ≡ false
+pub record GoesWithin {A B : Type 0} (fun : A → B) (follow : A → List Kind) (goes' : B → List Kind) : Type 0 where
+  pub at : (a : A) (r : Tokens) → begins (goes' (fun a)) r ≡ false → begins (follow a) r ≡ false
 
 -- ---- the next token
 
 pub alike_next : (cause : Cause) (y z : Tokens) → Alike cause y z → next_of y ≡ next_of z
-alike_next Misfit y z a = a
+alike_next UnexpectedToken y z a = a
 alike_next Wide y z a = a
 alike_next Deep y z a = a.0
 
@@ -111,11 +124,11 @@ module _ {A B : Type 0} (limit : ℕ) (L : ℕ → A → Tokens → Type 0) (M :
 
   pub dep_lang : IsLang L → ((a : A) → IsLang (M a)) → IsLang Dep
   dep_lang l k = record {
-    up = λ m n v ts h. record { front = h.front; back = h.back; split = h.split; first = l.up m n v.0 h.front h.first; second = (k v.0).up m n v.1 h.back h.second };
+    up = λ m n v ts h. record { prefix = h.prefix; suffix = h.suffix; split = h.split; first = l.up m n v.0 h.prefix h.first; second = (k v.0).up m n v.1 h.suffix h.second };
     depth = l.depth + (k l.value).depth;
     value = (l.value, (k l.value).value);
     text = l.text ++ (k l.value).text;
-    reads = record { front = l.text; back = (k l.value).text; split = refl; first = l.up _ _ _ _ l.reads; second = up_right (M l.value) (k l.value) _ _ _ _ (k l.value).reads };
+    reads = record { prefix = l.text; suffix = (k l.value).text; split = refl; first = l.up _ _ _ _ l.reads; second = up_right (M l.value) (k l.value) _ _ _ _ (k l.value).reads };
   }
 
   module _ (g : A → List Kind) (h : A → B → List Kind) (q : A → Reader B) (l : IsLang L) (k : (a : A) → IsLang (M a)) (follows : (a : A) → Leaves (g a) (h a) (M a)) where
@@ -125,47 +138,49 @@ module _ {A B : Type 0} (limit : ℕ) (L : ℕ → A → Tokens → Type 0) (M :
     moved_end : (a' a : A) (b : B) (r : Tokens) → a' ≡ a → begins (h a' b) r ≡ false → begins (h a b) r ≡ false
     moved_end a' a b r e z = subst (λ (x : A). begins (h x b) r ≡ false) e z
 
-    second : (ts : Tokens) (a : A) (rest : Tokens) → Took limit L g ts a rest → (o : Outcome B) → Good limit (M a) (h a) rest o
-        → Good limit Dep (λ v. h v.0 v.1) ts (and_then o (λ b rest'. Read (a, b) rest'))
-    second ts a rest w (Read b rest') v = record {
-      front = w.front ++ v.front;
-      split = w.split ∙ ap (λ z. w.front ++ z) v.split ∙ sym (append_assoc w.front v.front rest');
-      reads = record { front = w.front; back = v.front; split = refl; first = w.reads; second = v.reads };
+    second : (ts : Tokens) (a : A) (remaining : Tokens) → Took limit L g ts a remaining → (o : Outcome B) → Good limit (M a) (h a) remaining o
+        → Good limit Dep (λ v. h v.0 v.1) ts (and_then o (λ b remaining'. Read (a, b) remaining'))
+    second ts a remaining w (Read b remaining') v = record {
+      prefix = w.prefix ++ v.prefix;
+      split = w.split ∙ ap (λ z. w.prefix ++ z) v.split ∙ sym (append_assoc w.prefix v.prefix remaining');
+      reads = record { prefix = w.prefix; suffix = v.prefix; split = refl; first = w.reads; second = v.reads };
       only = λ m y f r c n e b z.
-          let one = w.only m (v.front ++ y) b.front (b.back ++ r) c.0 (next-append v.front y rest' n ∙ ap next_of (sym v.split))
-          (regroup f b.front b.back r _ b.split e ∙ append_assoc w.front v.front y) b.first ((follows c.0).at m c.1 b.back r b.second z) in
-          let two = v.only m y b.back r c.1 n one.2 (moved c.0 a m c.1 b.back one.0 b.second) (moved_end c.0 a c.1 r one.0 z) in
-          (pair_is _ _ c one.0 two.0, b.split ∙ ap (λ x. x ++ b.back) one.1 ∙ ap (λ x. w.front ++ x) two.1, two.2);
+          let one = w.only m (v.prefix ++ y) b.prefix (b.suffix ++ r) c.0 (next-append v.prefix y remaining' n ∙ ap next_of (sym v.split))
+          (regroup f b.prefix b.suffix r _ b.split e ∙ append_assoc w.prefix v.prefix y) b.first ((follows c.0).at m c.1 b.suffix r b.second z) in
+          let two = v.only m y b.suffix r c.1 n one.2 (moved c.0 a m c.1 b.suffix one.0 b.second) (moved_end c.0 a c.1 r one.0 z) in
+          (pair_is _ _ c one.0 two.0, b.split ∙ ap (λ x. x ++ b.suffix) one.1 ∙ ap (λ x. w.prefix ++ x) two.1, two.2);
     }
-    second ts a rest w (Stop cause rest') v = record {
-      front = w.front ++ v.front;
-      split = w.split ∙ ap (λ z. w.front ++ z) v.split ∙ sym (append_assoc w.front v.front rest');
+    second ts a remaining w (Stop cause remaining') v = record {
+      prefix = w.prefix ++ v.prefix;
+      split = w.split ∙ ap (λ z. w.prefix ++ z) v.split ∙ sym (append_assoc w.prefix v.prefix remaining');
       depth = limit + v.depth;
       value = (a, v.value);
       more = v.more;
-      viable = record { front = w.front; back = v.front ++ v.more; split = append_assoc w.front v.front v.more; first = l.up _ _ _ _ w.reads; second = up_right (M a) (k a) _ _ _ _ v.viable };
+      viable = record { prefix = w.prefix; suffix = v.prefix ++ v.more; split = append_assoc w.prefix v.prefix v.more; first = l.up _ _ _ _ w.reads; second = up_right (M a) (k a) _ _ _ _ v.viable };
+      begun = v.begun;
       dead = λ m y f r c u n e b z.
-          let one = w.only m (v.front ++ y) b.front (b.back ++ r) c.0 (next-append v.front y rest' (alike_next cause y rest' n) ∙ ap next_of (sym v.split))
-          (regroup f b.front b.back r _ b.split e ∙ append_assoc w.front v.front y) b.first ((follows c.0).at m c.1 b.back r b.second z) in
-          v.dead m y b.back r c.1 u n one.2 (moved c.0 a m c.1 b.back one.0 b.second) (moved_end c.0 a c.1 r one.0 z);
+          let one = w.only m (v.prefix ++ y) b.prefix (b.suffix ++ r) c.0 (next-append v.prefix y remaining' (alike_next cause y remaining' n) ∙ ap next_of (sym v.split))
+          (regroup f b.prefix b.suffix r _ b.split e ∙ append_assoc w.prefix v.prefix y) b.first ((follows c.0).at m c.1 b.suffix r b.second z) in
+          v.dead m y b.suffix r c.1 u n one.2 (moved c.0 a m c.1 b.suffix one.0 b.second) (moved_end c.0 a c.1 r one.0 z);
     }
 
     -- the other has only to be good where the one leaves off
-    pub first : (ts : Tokens) (o : Outcome A) → Good limit L g ts o → ((a : A) (rest : Tokens) → Took limit L g ts a rest → Good limit (M a) (h a) rest (q a rest))
-        → Good limit Dep (λ v. h v.0 v.1) ts (and_then o (λ a rest. and_then (q a rest) (λ b rest'. Read (a, b) rest')))
-    first ts (Read a rest) w next = second ts a rest w (q a rest) (next a rest w)
-    first ts (Stop cause rest) w next = record {
-      front = w.front;
+    pub first : (ts : Tokens) (o : Outcome A) → Good limit L g ts o → ((a : A) (remaining : Tokens) → Took limit L g ts a remaining → Good limit (M a) (h a) remaining (q a remaining))
+        → Good limit Dep (λ v. h v.0 v.1) ts (and_then o (λ a remaining. and_then (q a remaining) (λ b remaining'. Read (a, b) remaining')))
+    first ts (Read a remaining) w next = second ts a remaining w (q a remaining) (next a remaining w)
+    first ts (Stop cause remaining) w next = record {
+      prefix = w.prefix;
       split = w.split;
       depth = w.depth + (k w.value).depth;
       value = (w.value, (k w.value).value);
       more = w.more ++ (k w.value).text;
-      viable = record { front = w.front ++ w.more; back = (k w.value).text; split = sym (append_assoc w.front w.more (k w.value).text); first = l.up _ _ _ _ w.viable; second = up_right (M w.value) (k w.value) _ _ _ _ (k w.value).reads };
-      dead = λ m y f r c u n e b z. w.dead m y b.front (b.back ++ r) c.0 u n (regroup f b.front b.back r _ b.split e) b.first ((follows c.0).at m c.1 b.back r b.second z);
+      viable = record { prefix = w.prefix ++ w.more; suffix = (k w.value).text; split = sym (append_assoc w.prefix w.more (k w.value).text); first = l.up _ _ _ _ w.viable; second = up_right (M w.value) (k w.value) _ _ _ _ (k w.value).reads };
+      begun = begun_more cause w.more (k w.value).text remaining w.begun;
+      dead = λ m y f r c u n e b z. w.dead m y b.prefix (b.suffix ++ r) c.0 u n (regroup f b.prefix b.suffix r _ b.split e) b.first ((follows c.0).at m c.1 b.suffix r b.second z);
     }
 
     pub dep_good : (p : Reader A) → ((a : A) (ts : Tokens) → Good limit (M a) (h a) ts (q a ts)) → ((ts : Tokens) → Good limit L g ts (p ts)) → (ts : Tokens) → Good limit Dep (λ v. h v.0 v.1) ts (read_dep p q ts)
-    dep_good p iq ip ts = first ts (p ts) (ip ts) (λ a rest w. iq a rest)
+    dep_good p iq ip ts = first ts (p ts) (ip ts) (λ a remaining w. iq a remaining)
 
 -- ---- one token
 
@@ -178,21 +193,22 @@ module _ {A : Type 0} (limit : ℕ) (f : Token → Option A) (l : IsLang (λ m. 
       → (g r : Tokens) (b : A) → g ++ r ≡ y → leaf f b g → ⊥
   no_leaf ts y n none g r b e w = none w.0 b (sym n ∙ ap next_of (sym e ∙ ap (λ x. x ++ r) w.1)) w.2
 
-  stopped : (ts : Tokens) → ((t : Token) (a : A) → next_of ts ≡ Some t → f t ≡ Some a → ⊥) → Good limit (λ m. leaf f) (λ a. []) ts (Stop Misfit ts)
+  stopped : (ts : Tokens) → ((t : Token) (a : A) → next_of ts ≡ Some t → f t ≡ Some a → ⊥) → Good limit (λ m. leaf f) (λ a. []) ts (Stop UnexpectedToken ts)
   stopped ts none = record {
-    front = [];
+    prefix = [];
     split = refl;
     depth = l.depth;
     value = l.value;
     more = l.text;
     viable = l.reads;
+    begun = tt;
     dead = λ m y g r b u n e w z. no_leaf ts y n none g r b e w;
   }
 
   one : (t : Token) (ts : Tokens) (found : Option A) → f t ≡ found → Good limit (λ m. leaf f) (λ a. []) (t ∷ ts) (read_if found (t ∷ ts) ts)
   one t ts None h = stopped (t ∷ ts) (λ t' a n e. let same : t ≡ t' = cc in let e' : f t ≡ Some a = ap f same ∙ e in cc)
   one t ts (Some a) h = record {
-    front = t ∷ [];
+    prefix = t ∷ [];
     split = refl;
     reads = (t, refl, h);
     only = λ m y g r b n e w z.
@@ -206,11 +222,11 @@ module _ {A : Type 0} (limit : ℕ) (f : Token → Option A) (l : IsLang (λ m. 
   leaf_good [] = stopped [] (λ t a n e. cc)
   leaf_good (t ∷ ts) = one t ts (f t) refl
 
--- ---- with what a function makes
+-- ---- mapped by a function
 
 module _ {A B : Type 0} (limit : ℕ) (fun : A → B) (L : ℕ → A → Tokens → Type 0) where
-  pub made_lang : IsLang L → IsLang (λ m. made fun (L m))
-  made_lang l = record {
+  pub mapped_lang : IsLang L → IsLang (λ m. mapped fun (L m))
+  mapped_lang l = record {
     up = λ m n b ts h. (h.0, l.up m n h.0 ts h.1, h.2);
     depth = l.depth;
     value = fun l.value;
@@ -219,24 +235,25 @@ module _ {A B : Type 0} (limit : ℕ) (fun : A → B) (L : ℕ → A → Tokens 
   }
 
   module _ (g : A → List Kind) (g' : B → List Kind) (inside : GoesWithin fun g g') where
-    back : {m : ℕ} {f : Tokens} (r : Tokens) (c : B) (h : made fun (L m) c f) → begins (g' c) r ≡ false → begins (g h.0) r ≡ false
-    back r c h z = inside.at h.0 r (subst (λ (x : B). begins (g' x) r ≡ false) (sym h.2) z)
+    suffix : {m : ℕ} {f : Tokens} (r : Tokens) (c : B) (h : mapped fun (L m) c f) → begins (g' c) r ≡ false → begins (g h.0) r ≡ false
+    suffix r c h z = inside.at h.0 r (subst (λ (x : B). begins (g' x) r ≡ false) (sym h.2) z)
 
-    pub made_good : (ts : Tokens) (o : Outcome A) → Good limit L g ts o → Good limit (λ m. made fun (L m)) g' ts (and_then o (λ a rest. Read (fun a) rest))
-    made_good ts (Read a rest) w = record {
-      front = w.front;
+    pub mapped_good : (ts : Tokens) (o : Outcome A) → Good limit L g ts o → Good limit (λ m. mapped fun (L m)) g' ts (and_then o (λ a remaining. Read (fun a) remaining))
+    mapped_good ts (Read a remaining) w = record {
+      prefix = w.prefix;
       split = w.split;
       reads = (a, w.reads, refl);
-      only = λ m y f r c n e h z. let o = w.only m y f r h.0 n e h.1 (back r c h z) in (sym h.2 ∙ ap fun o.0, o.1, o.2);
+      only = λ m y f r c n e h z. let o = w.only m y f r h.0 n e h.1 (suffix r c h z) in (sym h.2 ∙ ap fun o.0, o.1, o.2);
     }
-    made_good ts (Stop cause rest) w = record {
-      front = w.front;
+    mapped_good ts (Stop cause remaining) w = record {
+      prefix = w.prefix;
       split = w.split;
       depth = w.depth;
       value = fun w.value;
       more = w.more;
       viable = (w.value, w.viable, refl);
-      dead = λ m y f r c u n e h z. w.dead m y f r h.0 u n e h.1 (back r c h z);
+      begun = w.begun;
+      dead = λ m y f r c u n e h z. w.dead m y f r h.0 u n e h.1 (suffix r c h z);
     }
 
 -- ---- no token
@@ -246,7 +263,7 @@ nothing_lang a = record { up = λ m n b ts h. h; depth = 0; value = a; text = []
 
 pub nothing_good : {A : Type 0} (limit : ℕ) (g : A → List Kind) (a : A) (ts : Tokens) → Good limit (λ m. nothing a) g ts (read_nothing a ts)
 nothing_good limit g a ts = record {
-  front = [];
+  prefix = [];
   split = refl;
   reads = (refl, refl);
   only = λ m y f r b n e h z. (h.0, h.1, ap (λ x. x ++ r) (sym h.1) ∙ e);
@@ -254,8 +271,8 @@ nothing_good limit g a ts = record {
 
 -- ---- the one or the other
 
-meets : (set : List Kind) (ts front rest y f r : Tokens) → ts ≡ front ++ rest → next_of y ≡ next_of rest → f ++ r ≡ front ++ y → begins set (f ++ r) ≡ begins set ts
-meets set ts front rest y f r s n e = ap (begins set) e ∙ begins-next set (front ++ y) (front ++ rest) (next-append front y rest n) ∙ ap (begins set) (sym s)
+meets : (set : List Kind) (ts prefix remaining y f r : Tokens) → ts ≡ prefix ++ remaining → next_of y ≡ next_of remaining → f ++ r ≡ prefix ++ y → begins set (f ++ r) ≡ begins set ts
+meets set ts prefix remaining y f r s n e = ap (begins set) e ∙ begins-next set (prefix ++ y) (prefix ++ remaining) (next-append prefix y remaining n) ∙ ap (begins set) (sym s)
 
 module _ {A : Type 0} (limit : ℕ) (L M : ℕ → A → Tokens → Type 0) where
   pub either_lang : IsLang L → IsLang M → IsLang (λ m. either (L m) (M m))
@@ -265,31 +282,31 @@ module _ {A : Type 0} (limit : ℕ) (L M : ℕ → A → Tokens → Type 0) wher
     up m n a ts (inr h) = inr (k.up m n a ts h)
 
   module _ (set : List Kind) (g h k : A → List Kind) (g_in : GoesWithin (λ a. a) g k) (h_in : GoesWithin (λ a. a) h k) (starts : Starts set L) (leaves : Leaves set k M) where
-    not_right : (ts front rest y f r : Tokens) (m : ℕ) (b : A) → begins set ts ≡ true → ts ≡ front ++ rest → next_of y ≡ next_of rest → f ++ r ≡ front ++ y → M m b f → begins (k b) r ≡ false → ⊥
-    not_right ts front rest y f r m b v s n e w z = let e1 = meets set ts front rest y f r s n e in let e2 = leaves.at m b f r w z in cc
+    not_right : (ts prefix remaining y f r : Tokens) (m : ℕ) (b : A) → begins set ts ≡ true → ts ≡ prefix ++ remaining → next_of y ≡ next_of remaining → f ++ r ≡ prefix ++ y → M m b f → begins (k b) r ≡ false → ⊥
+    not_right ts prefix remaining y f r m b v s n e w z = let e1 = meets set ts prefix remaining y f r s n e in let e2 = leaves.at m b f r w z in cc
 
-    not_left : (ts front rest y f r : Tokens) (m : ℕ) (b : A) → begins set ts ≡ false → ts ≡ front ++ rest → next_of y ≡ next_of rest → f ++ r ≡ front ++ y → L m b f → ⊥
-    not_left ts front rest y f r m b v s n e w = let e1 = meets set ts front rest y f r s n e in let e2 = begins-append set f r (starts.at m b f w) in cc
+    not_left : (ts prefix remaining y f r : Tokens) (m : ℕ) (b : A) → begins set ts ≡ false → ts ≡ prefix ++ remaining → next_of y ≡ next_of remaining → f ++ r ≡ prefix ++ y → L m b f → ⊥
+    not_left ts prefix remaining y f r m b v s n e w = let e1 = meets set ts prefix remaining y f r s n e in let e2 = begins-append set f r (starts.at m b f w) in cc
 
     left : (ts : Tokens) → begins set ts ≡ true → (o : Outcome A) → Good limit L g ts o → Good limit (λ m. either (L m) (M m)) k ts o
-    left ts v (Read a rest) w = record { front = w.front; split = w.split; reads = inl w.reads; only = only } where
-      only : (m : ℕ) (y f r : Tokens) (b : A) → next_of y ≡ next_of rest → f ++ r ≡ w.front ++ y → either (L m) (M m) b f → begins (k b) r ≡ false → (b ≡ a) × (f ≡ w.front) × (r ≡ y)
+    left ts v (Read a remaining) w = record { prefix = w.prefix; split = w.split; reads = inl w.reads; only = only } where
+      only : (m : ℕ) (y f r : Tokens) (b : A) → next_of y ≡ next_of remaining → f ++ r ≡ w.prefix ++ y → either (L m) (M m) b f → begins (k b) r ≡ false → (b ≡ a) × (f ≡ w.prefix) × (r ≡ y)
       only m y f r b n e (inl x) z = w.only m y f r b n e x (g_in.at b r z)
-      only m y f r b n e (inr x) z = absurd (not_right ts w.front rest y f r m b v w.split n e x z)
-    left ts v (Stop cause rest) w = record { front = w.front; split = w.split; depth = w.depth; value = w.value; more = w.more; viable = inl w.viable; dead = dead } where
-      dead : (m : ℕ) (y f r : Tokens) (b : A) → Covers limit cause m → Alike cause y rest → f ++ r ≡ w.front ++ y → either (L m) (M m) b f → begins (k b) r ≡ false → ⊥
+      only m y f r b n e (inr x) z = absurd (not_right ts w.prefix remaining y f r m b v w.split n e x z)
+    left ts v (Stop cause remaining) w = record { prefix = w.prefix; split = w.split; depth = w.depth; value = w.value; more = w.more; viable = inl w.viable; begun = w.begun; dead = dead } where
+      dead : (m : ℕ) (y f r : Tokens) (b : A) → Covers limit cause m → Alike cause y remaining → f ++ r ≡ w.prefix ++ y → either (L m) (M m) b f → begins (k b) r ≡ false → ⊥
       dead m y f r b u n e (inl x) z = w.dead m y f r b u n e x (g_in.at b r z)
-      dead m y f r b u n e (inr x) z = not_right ts w.front rest y f r m b v w.split (alike_next cause y rest n) e x z
+      dead m y f r b u n e (inr x) z = not_right ts w.prefix remaining y f r m b v w.split (alike_next cause y remaining n) e x z
 
     right : (ts : Tokens) → begins set ts ≡ false → (o : Outcome A) → Good limit M h ts o → Good limit (λ m. either (L m) (M m)) k ts o
-    right ts v (Read a rest) w = record { front = w.front; split = w.split; reads = inr w.reads; only = only } where
-      only : (m : ℕ) (y f r : Tokens) (b : A) → next_of y ≡ next_of rest → f ++ r ≡ w.front ++ y → either (L m) (M m) b f → begins (k b) r ≡ false → (b ≡ a) × (f ≡ w.front) × (r ≡ y)
+    right ts v (Read a remaining) w = record { prefix = w.prefix; split = w.split; reads = inr w.reads; only = only } where
+      only : (m : ℕ) (y f r : Tokens) (b : A) → next_of y ≡ next_of remaining → f ++ r ≡ w.prefix ++ y → either (L m) (M m) b f → begins (k b) r ≡ false → (b ≡ a) × (f ≡ w.prefix) × (r ≡ y)
       only m y f r b n e (inr x) z = w.only m y f r b n e x (h_in.at b r z)
-      only m y f r b n e (inl x) z = absurd (not_left ts w.front rest y f r m b v w.split n e x)
-    right ts v (Stop cause rest) w = record { front = w.front; split = w.split; depth = w.depth; value = w.value; more = w.more; viable = inr w.viable; dead = dead } where
-      dead : (m : ℕ) (y f r : Tokens) (b : A) → Covers limit cause m → Alike cause y rest → f ++ r ≡ w.front ++ y → either (L m) (M m) b f → begins (k b) r ≡ false → ⊥
+      only m y f r b n e (inl x) z = absurd (not_left ts w.prefix remaining y f r m b v w.split n e x)
+    right ts v (Stop cause remaining) w = record { prefix = w.prefix; split = w.split; depth = w.depth; value = w.value; more = w.more; viable = inr w.viable; begun = w.begun; dead = dead } where
+      dead : (m : ℕ) (y f r : Tokens) (b : A) → Covers limit cause m → Alike cause y remaining → f ++ r ≡ w.prefix ++ y → either (L m) (M m) b f → begins (k b) r ≡ false → ⊥
       dead m y f r b u n e (inr x) z = w.dead m y f r b u n e x (h_in.at b r z)
-      dead m y f r b u n e (inl x) z = not_left ts w.front rest y f r m b v w.split (alike_next cause y rest n) e x
+      dead m y f r b u n e (inl x) z = not_left ts w.prefix remaining y f r m b v w.split (alike_next cause y remaining n) e x
 
     pub choose : (ts : Tokens) (v : Bool) (o o' : Outcome A) → begins set ts ≡ v → (v ≡ true → Good limit L g ts o) → (v ≡ false → Good limit M h ts o')
         → Good limit (λ m. either (L m) (M m)) k ts (cond v o o')
@@ -303,15 +320,15 @@ module _ {A : Type 0} (limit : ℕ) (L M : ℕ → A → Tokens → Type 0) wher
 
 pub same_good : {A : Type 0} (limit : ℕ) (L M : ℕ → A → Tokens → Type 0) → ((m : ℕ) (a : A) (ts : Tokens) → L m a ts → M m a ts) → ((m : ℕ) (a : A) (ts : Tokens) → M m a ts → L m a ts)
     → (g : A → List Kind) (ts : Tokens) (o : Outcome A) → Good limit L g ts o → Good limit M g ts o
-same_good limit L M to from g ts (Read a rest) w = record { front = w.front; split = w.split; reads = to _ _ _ w.reads; only = λ m y f r b n e h z. w.only m y f r b n e (from m b f h) z }
-same_good limit L M to from g ts (Stop cause rest) w = record { front = w.front; split = w.split; depth = w.depth; value = w.value; more = w.more; viable = to _ _ _ w.viable; dead = λ m y f r b u n e h z. w.dead m y f r b u n e (from m b f h) z }
+same_good limit L M to from g ts (Read a remaining) w = record { prefix = w.prefix; split = w.split; reads = to _ _ _ w.reads; only = λ m y f r b n e h z. w.only m y f r b n e (from m b f h) z }
+same_good limit L M to from g ts (Stop cause remaining) w = record { prefix = w.prefix; split = w.split; depth = w.depth; value = w.value; more = w.more; viable = to _ _ _ w.viable; begun = w.begun; dead = λ m y f r b u n e h z. w.dead m y f r b u n e (from m b f h) z }
 
 -- ---- any number
 
--- the turns of a loop, gathered into a list
+-- the rounds of a loop, gathered into a list
 abbrev pub read_list_to : {A : Type 0} → ℕ → List Kind → Reader A → Reader (List A)
 read_list_to zero set p ts = Read [] ts
-read_list_to (suc n) set p ts = read_either set (read_made (λ v. v.0 ∷ v.1) (read_both p (read_list_to n set p))) (read_nothing []) ts
+read_list_to (suc n) set p ts = read_either set (read_mapped (λ v. v.0 ∷ v.1) (read_both p (read_list_to n set p))) (read_nothing []) ts
 
 abbrev pub read_list : {A : Type 0} → List Kind → Reader A → Reader (List A)
 read_list set p ts = read_list_to (length ts) set p ts
@@ -324,16 +341,16 @@ module _ {A : Type 0} (L : ℕ → A → Tokens → Type 0) (l : IsLang L) where
   pub many_lang : IsLang (λ m. many (L m))
   many_lang = record { up = many_up; depth = 0; value = []; text = []; reads = refl }
 
-  abbrev Turn : ℕ → List A → Tokens → Type 0
-  Turn m = either (made (λ v. v.0 ∷ v.1) (both (L m) (many (L m)))) (nothing [])
+  abbrev OneRound : ℕ → List A → Tokens → Type 0
+  OneRound m = either (mapped (λ v. v.0 ∷ v.1) (both (L m) (many (L m)))) (nothing [])
 
-  turn_of : (m : ℕ) (b : List A) (ts : Tokens) → many (L m) b ts → Turn m b ts
-  turn_of m [] ts h = inr (refl, h)
-  turn_of m (a ∷ more) ts h = inl ((a, more), record { front = h.0; back = h.1; split = h.2; first = h.3; second = h.4 }, refl)
+  to_round : (m : ℕ) (b : List A) (ts : Tokens) → many (L m) b ts → OneRound m b ts
+  to_round m [] ts h = inr (refl, h)
+  to_round m (a ∷ more) ts h = inl ((a, more), record { prefix = h.0; suffix = h.1; split = h.2; first = h.3; second = h.4 }, refl)
 
-  of_turn : (m : ℕ) (b : List A) (ts : Tokens) → Turn m b ts → many (L m) b ts
-  of_turn m b ts (inl h) = subst (λ (x : List A). many (L m) x ts) h.2 (h.1.front, h.1.back, h.1.split, h.1.first, h.1.second)
-  of_turn m b ts (inr h) = subst (λ (x : List A). many (L m) x ts) (sym h.0) h.1
+  from_round : (m : ℕ) (b : List A) (ts : Tokens) → OneRound m b ts → many (L m) b ts
+  from_round m b ts (inl h) = subst (λ (x : List A). many (L m) x ts) h.2 (h.1.prefix, h.1.suffix, h.1.split, h.1.first, h.1.second)
+  from_round m b ts (inr h) = subst (λ (x : List A). many (L m) x ts) (sym h.0) h.1
 
 module _ {A : Type 0} (limit : ℕ) (L : ℕ → A → Tokens → Type 0) (l : IsLang L) (set : List Kind) (g : A → List Kind) (k : List Kind) (starts : Starts set L)
     (g_in : (a : A) (r : Tokens) → begins k r ≡ false → begins (g a) r ≡ false) (set_in : (r : Tokens) → begins k r ≡ false → begins set r ≡ false)
@@ -344,36 +361,36 @@ module _ {A : Type 0} (limit : ℕ) (L : ℕ → A → Tokens → Type 0) (l : I
     leaves_at m [] f r h z = subst (λ (x : Tokens). begins (g a) (x ++ r) ≡ false) (sym h) (g_in a r z)
     leaves_at m (b ∷ more) f r h z = apart a (f ++ r) (begins-append set f r (subst (λ (x : Tokens). begins set x ≡ true) (sym h.2) (begins-append set h.0 h.1 (starts.at m b h.0 h.3))))
 
-  fewer : (n : ℕ) (ts front rest : Tokens) → ts ≡ front ++ rest → begins set front ≡ true → length ts ≤ suc n → length rest ≤ n
-  fewer n ts [] rest s b h = cc
-  fewer n ts (t ∷ front) rest s b h = omega (arith, length-append front rest, ap length s, h)
+  fewer : (n : ℕ) (ts prefix remaining : Tokens) → ts ≡ prefix ++ remaining → begins set prefix ≡ true → length ts ≤ suc n → length remaining ≤ n
+  fewer n ts [] remaining s b h = cc
+  fewer n ts (t ∷ prefix) remaining s b h = omega (arith, length-append prefix remaining, ap length s, h)
 
   same : GoesWithin {A = List A} {B = List A} (λ b. b) (λ b. k) (λ b. k)
   same = record { at = λ b r z. z }
 
-  -- the two cases of a turn
-  by_turn : (ts : Tokens) (v : Bool) (o : Outcome (List A)) → begins set ts ≡ v → (v ≡ true → Good limit (λ m. made (λ v. v.0 ∷ v.1) (both (L m) (many (L m)))) (λ b. k) ts o)
+  -- the two cases of a round
+  by_first_round : (ts : Tokens) (v : Bool) (o : Outcome (List A)) → begins set ts ≡ v → (v ≡ true → Good limit (λ m. mapped (λ v. v.0 ∷ v.1) (both (L m) (many (L m)))) (λ b. k) ts o)
       → Good limit (λ m. many (L m)) (λ b. k) ts (cond v o (Read [] ts))
-  by_turn ts v o e f = same_good limit (Turn L l) (λ m. many (L m)) (of_turn L l) (turn_of L l) (λ b. k) ts _
-      (choose limit (λ m. made (λ v. v.0 ∷ v.1) (both (L m) (many (L m)))) (λ m. nothing []) set (λ b. k) (λ b. k) (λ b. k) same same
-      (record { at = λ m b f h. subst (λ (x : Tokens). begins set x ≡ true) (sym h.1.split) (begins-append set h.1.front h.1.back (starts.at m h.0.0 h.1.front h.1.first)) })
+  by_first_round ts v o e f = same_good limit (OneRound L l) (λ m. many (L m)) (from_round L l) (to_round L l) (λ b. k) ts _
+      (choose limit (λ m. mapped (λ v. v.0 ∷ v.1) (both (L m) (many (L m)))) (λ m. nothing []) set (λ b. k) (λ b. k) (λ b. k) same same
+      (record { at = λ m b f h. subst (λ (x : Tokens). begins set x ≡ true) (sym h.1.split) (begins-append set h.1.prefix h.1.suffix (starts.at m h.0.0 h.1.prefix h.1.first)) })
       (record { at = λ m b f r h z. subst (λ (x : Tokens). begins set (x ++ r) ≡ false) (sym h.1) (set_in r z) })
       ts v o (Read [] ts) e f (λ e. nothing_good limit (λ b. k) [] ts))
 
-  turn : (n : ℕ) (p : Reader A) → ((ts : Tokens) → Good limit L g ts (p ts)) → ((ts : Tokens) → length ts ≤ n → Good limit (λ m. many (L m)) (λ b. k) ts (read_list_to n set p ts))
+  round : (n : ℕ) (p : Reader A) → ((ts : Tokens) → Good limit L g ts (p ts)) → ((ts : Tokens) → length ts ≤ n → Good limit (λ m. many (L m)) (λ b. k) ts (read_list_to n set p ts))
       → (ts : Tokens) → length ts ≤ suc n → Good limit (λ m. many (L m)) (λ b. k) ts (read_list_to (suc n) set p ts)
-  turn n p ip next ts h = by_turn ts _ _ refl
-      (λ e. made_good limit (λ v. v.0 ∷ v.1) (λ m. both (L m) (many (L m))) (λ v. k) (λ b. k) (record { at = λ v r z. z }) ts _
+  round n p ip next ts h = by_first_round ts _ _ refl
+      (λ e. mapped_good limit (λ v. v.0 ∷ v.1) (λ m. both (L m) (many (L m))) (λ v. k) (λ b. k) (record { at = λ v r z. z }) ts _
       (first limit L (λ a m. many (L m)) g (λ a b. k) (λ a. read_list_to n set p) l (λ a. many_lang L l) list_leaves ts (p ts) (ip ts)
-      (λ a rest w. next rest (fewer n ts w.front rest w.split (starts.at limit a w.front w.reads) h))))
+      (λ a remaining w. next remaining (fewer n ts w.prefix remaining w.split (starts.at limit a w.prefix w.reads) h))))
 
-  no_turn : (p : Reader A) (ts : Tokens) → length ts ≤ 0 → Good limit (λ m. many (L m)) (λ b. k) ts (read_list_to zero set p ts)
-  no_turn p [] h = by_turn [] false (Read [] []) refl (λ e. cc)
-  no_turn p (t ∷ ts) h = absurd (omega arith)
+  no_round : (p : Reader A) (ts : Tokens) → length ts ≤ 0 → Good limit (λ m. many (L m)) (λ b. k) ts (read_list_to zero set p ts)
+  no_round p [] h = by_first_round [] false (Read [] []) refl (λ e. cc)
+  no_round p (t ∷ ts) h = absurd (omega arith)
 
   many_to_good : (n : ℕ) (p : Reader A) → ((ts : Tokens) → Good limit L g ts (p ts)) → (ts : Tokens) → length ts ≤ n → Good limit (λ m. many (L m)) (λ b. k) ts (read_list_to n set p ts)
-  many_to_good zero p ip ts h = no_turn p ts h
-  many_to_good (suc n) p ip ts h = turn n p ip (many_to_good n p ip) ts h
+  many_to_good zero p ip ts h = no_round p ts h
+  many_to_good (suc n) p ip ts h = round n p ip (many_to_good n p ip) ts h
 
   pub many_good : (p : Reader A) → ((ts : Tokens) → Good limit L g ts (p ts)) → (ts : Tokens) → Good limit (λ m. many (L m)) (λ b. k) ts (read_list set p ts)
   many_good p ip ts = many_to_good (length ts) p ip ts (omega arith)

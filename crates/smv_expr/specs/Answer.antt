@@ -1,5 +1,5 @@
 -- What is answered of a whole text, by a reader of a language whose texts nest.
-use Rattle.std.specs.Prelude.{◌≡◌, ℕ, ◌≤◌, Bool, true, if◌then◌else◌, [], ◌∷◌, ◌++◌, length, Some, Result, Ok, Err}
+use Rattle.std.specs.Prelude.{◌≡◌, ℕ, ◌≤◌, Bool, true, false, if◌then◌else◌, [], ◌∷◌, ◌++◌, length, Some, Result, Ok, Err}
 use Rattle.smv_ast.specs.declared.syntax.Span.{Span}
 use Rattle.smv_ast.specs.declared.fault.Fault.{Fault}
 use Rattle.smv_ast.specs.declared.fault.Fault.TheVariants as fault
@@ -7,100 +7,142 @@ use Rattle.smv_expr.specs.declared.kind.Kind.TheVariants as k
 use Rattle.smv_expr.specs.declared.error.ReadError.{ReadError}
 use Rattle.smv_expr.specs.declared.error.ReadError.TheVariants as error
 use Rattle.smv_expr.specs.Lexicon.{Bytes, tokens}
-use Rattle.smv_expr.specs.Language.{Tokens, next_of, begins}
-use Rattle.smv_expr.specs.Reading.{Outcome, Reader}
+use Rattle.smv_expr.specs.Language.{Tokens, next_of, followed_by, begins}
+use Rattle.smv_expr.specs.Reading.{Outcome, Reader, remaining_of}
 use Rattle.smv_expr.specs.Reading.Outcome.{Read, Stop}
-use Rattle.smv_expr.specs.Reading.Cause.{Misfit, Wide, Deep}
+use Rattle.smv_expr.specs.Reading.Cause.{UnexpectedToken, Wide, Deep}
 use Rattle.smv_expr.specs.Limits.{nesting_bound}
 
 -- ---- what a list of tokens is
 
--- A language here is a family: the number says that fewer constructs than it are open at one place. This is a text of it,
--- however deep it nests, however high its trees and however great its numbers are.
-abbrev pub unlimited : {A : Type 0} → (ℕ → A → Tokens → Type 0) → A → Tokens → Type 0
-unlimited L a ts = (m : ℕ) × L m a ts
+-- A grammar here is a family of languages. The truth value tells whether numerals may be of any size or have to be within
+-- the limit; the number says that fewer constructs than it are open at each point.
 
--- The whole list stands for this value, and for no other. At no place are more than a thousand constructs open, and no tree
--- of it is too high.
-pub record IsText {A : Type 0} (L : ℕ → A → Tokens → Type 0) (is_low : A → Bool) (ts : Tokens) (a : A) : Type 0 where
-  pub reads : L nesting_bound a ts
+-- a text of the grammar, however deep it nests, however high its trees and however great its numbers are
+abbrev pub unlimited : {A : Type 0} → (Bool → ℕ → A → Tokens → Type 0) → A → Tokens → Type 0
+unlimited G a ts = (m : ℕ) × G true m a ts
+
+-- a text of the grammar whose numerals are within the limit, however deep it nests and however high its trees are
+abbrev pub small : {A : Type 0} → (Bool → ℕ → A → Tokens → Type 0) → A → Tokens → Type 0
+small G a ts = (m : ℕ) × G false m a ts
+
+-- The whole list stands for this value, and for no other. Its numerals are within the limit, at no point are more than a
+-- thousand constructs open, and no tree of it is too high.
+pub record IsText {A : Type 0} (G : Bool → ℕ → A → Tokens → Type 0) (is_low : A → Bool) (ts : Tokens) (a : A) : Type 0 where
+  pub reads : G false nesting_bound a ts
   pub low : is_low a ≡ true
-  pub only : (b : A) → unlimited L b ts → b ≡ a
+  pub only : (b : A) → unlimited G b ts → b ≡ a
 
--- The first token of the rest, or the end, is the first with which, after the tokens before it, no text of the
--- language begins.
-pub record StopsAt {A : Type 0} (L : A → Tokens → Type 0) (ts rest : Tokens) : Type 0 where
-  pub front : Tokens
-  pub split : ts ≡ front ++ rest
+-- The tokens before the remaining ones are a viable prefix: some text of the language begins with them.
+pub record IsViable {A : Type 0} (L : A → Tokens → Type 0) (ts remaining : Tokens) : Type 0 where
+  pub prefix : Tokens
+  pub split : ts ≡ prefix ++ remaining
   pub more : Tokens
   pub value : A
-  pub viable : L value (front ++ more)
-  pub dead : (y : Tokens) (a : A) → next_of y ≡ next_of rest → L a (front ++ y) → ⊥
+  pub viable : L value (prefix ++ more)
 
--- what stands before the rest can be gone on with to a text
-pub record IsViable {A : Type 0} (L : A → Tokens → Type 0) (ts rest : Tokens) : Type 0 where
-  pub front : Tokens
-  pub split : ts ≡ front ++ rest
+-- Some text of the language begins with these tokens and the next of the remaining ones. Where none is next, the text is
+-- these tokens.
+pub record GoesOn {A : Type 0} (L : A → Tokens → Type 0) (prefix remaining : Tokens) : Type 0 where
   pub more : Tokens
+  pub next : next_of more ≡ next_of remaining
   pub value : A
-  pub viable : L value (front ++ more)
+  pub viable : L value (prefix ++ more)
 
--- a numeral over the limit stands where the text can be gone on with
-pub record StopsWide {A : Type 0} (L : A → Tokens → Type 0) (ts rest : Tokens) : Type 0 where
-  pub wide : begins (k.WideNumeral ∷ []) rest ≡ true
-  pub before : IsViable L ts rest
+-- No text begins with the tokens up to the next one, whatever its numerals are. A text with numerals within the limit begins
+-- with the tokens before it.
+pub record StopsAt {A : Type 0} (G : Bool → ℕ → A → Tokens → Type 0) (ts remaining : Tokens) : Type 0 where
+  pub before : IsViable (small G) ts remaining
+  pub dead : GoesOn (unlimited G) before.prefix remaining → ⊥
 
--- the list is no text within the limits of nesting
-pub record StopsDeep {A : Type 0} (L : ℕ → A → Tokens → Type 0) (is_low : A → Bool) (ts rest : Tokens) : Type 0 where
-  pub before : IsViable (unlimited L) ts rest
-  pub unfit : (m : ℕ) (a : A) → m ≤ nesting_bound → L m a ts → is_low a ≡ true → ⊥
+-- The next token is a numeral over the limit, and some text begins with the tokens up to it. None does whose numerals are
+-- within the limit, but one begins with the tokens before it.
+pub record StopsWide {A : Type 0} (G : Bool → ℕ → A → Tokens → Type 0) (ts remaining : Tokens) : Type 0 where
+  pub wide : begins (k.WideNumeral ∷ []) remaining ≡ true
+  pub before : IsViable (small G) ts remaining
+  pub live : GoesOn (unlimited G) before.prefix remaining
+  pub dead : GoesOn (small G) before.prefix remaining → ⊥
 
--- What a reading says of the whole list. Where the list goes on behind a text, it stops at the next token.
-abbrev pub Verdict : {A : Type 0} → (ℕ → A → Tokens → Type 0) → (A → Bool) → Tokens → Outcome A → Type 0
-Verdict L is_low ts (Read a []) = IsText L is_low ts a
-Verdict L is_low ts (Read a (t ∷ rest)) = StopsAt (unlimited L) ts (t ∷ rest)
-Verdict L is_low ts (Stop Misfit rest) = StopsAt (unlimited L) ts rest
-Verdict L is_low ts (Stop Wide rest) = StopsWide (unlimited L) ts rest
-Verdict L is_low ts (Stop Deep rest) = StopsDeep L is_low ts rest
+-- Some text within all limits begins with these tokens and the next one of the remaining, with `..` after it or not as here.
+pub record GoesOnWithin {A : Type 0} (G : Bool → ℕ → A → Tokens → Type 0) (is_low : A → Bool) (prefix remaining : Tokens) : Type 0 where
+  pub more : Tokens
+  pub next : next_of more ≡ next_of remaining
+  pub dots : followed_by k.DotDot more ≡ followed_by k.DotDot remaining
+  pub value : A
+  pub reads : G false nesting_bound value (prefix ++ more)
+  pub low : is_low value ≡ true
 
--- ---- how it is told
+-- A text with numerals within the limit begins with the tokens before the remaining ones. No text within the limits begins
+-- with the tokens up to the next one, and the list is none, whatever its numerals are.
+pub record StopsDeep {A : Type 0} (G : Bool → ℕ → A → Tokens → Type 0) (is_low : A → Bool) (ts remaining : Tokens) : Type 0 where
+  pub before : IsViable (small G) ts remaining
+  pub dead : GoesOnWithin G is_low before.prefix remaining → ⊥
+  pub unfit : (m : ℕ) (a : A) → m ≤ nesting_bound → G true m a ts → is_low a ≡ true → ⊥
+
+-- Each beginning of the list that is a text, and ends before the remaining tokens, is a text within the limits: none of them
+-- is passed that is not. A numeral that `..` follows ends no text.
+abbrev pub AreWithin : {A : Type 0} → (Bool → ℕ → A → Tokens → Type 0) → (A → Bool) → Tokens → Tokens → Type 0
+AreWithin {A} G is_low ts remaining = (c r mid : Tokens) (a : A) → ts ≡ c ++ r → r ≡ mid ++ remaining → begins (k.DotDot ∷ []) r ≡ false
+    → unlimited G a c → IsText G is_low c a
+
+-- What a reading says of the whole list. Where a text is read and tokens remain, the fault is at the next of them.
+abbrev pub Verdict : {A : Type 0} → (Bool → ℕ → A → Tokens → Type 0) → (A → Bool) → Tokens → Outcome A → Type 0
+Verdict G is_low ts (Read a []) = IsText G is_low ts a
+Verdict G is_low ts (Read a (t ∷ remaining)) = StopsAt G ts (t ∷ remaining)
+Verdict G is_low ts (Stop UnexpectedToken remaining) = StopsAt G ts remaining
+Verdict G is_low ts (Stop Wide remaining) = StopsWide G ts remaining
+Verdict G is_low ts (Stop Deep remaining) = StopsDeep G is_low ts remaining
+
+-- ---- how it is reported
 
 -- where the next token stands, or the end of the file
-abbrev pub stand : ℕ → Bytes → Tokens → Span
-stand file bytes [] = record { file = file; at = length bytes }
-stand file bytes (t ∷ ts) = t.at
+abbrev pub next_span : ℕ → Bytes → Tokens → Span
+next_span file bytes [] = record { file = file; at = length bytes }
+next_span file bytes (t ∷ ts) = t.at
 
--- the fault of the token with which no text goes on: LeftOut where it is a word or mark of SMV that is left out here
-abbrev pub misfit : ℕ → Bytes → Tokens → Fault
-misfit file bytes [] = fault.Syntax (Some (stand file bytes []))
-misfit file bytes (t ∷ rest) = if begins (k.LeftOut ∷ []) (t ∷ rest) then fault.LeftOut (Some t.at) t.text else fault.Syntax (Some t.at)
+-- the fault of a token up to which no text begins: LeftOut where it is a word or mark of SMV that is left out here
+abbrev pub syntax_fault : ℕ → Bytes → Tokens → Fault
+syntax_fault file bytes [] = fault.Syntax (Some (next_span file bytes []))
+syntax_fault file bytes (t ∷ remaining) = if begins (k.LeftOut ∷ []) (t ∷ remaining) then
+    fault.LeftOut (Some t.at) t.text else fault.Syntax (Some t.at)
 
--- the fault of a reader that stopped so, at the rest
+-- the fault of a reader that stopped so, at the remaining tokens
 abbrev pub IsFaultOf : ℕ → Bytes → ReadError → Tokens → Fault → Type 0
-IsFaultOf file bytes error.NoMemory rest f = ⊥
-IsFaultOf file bytes error.Unexpected rest f = f ≡ misfit file bytes rest
-IsFaultOf file bytes error.WideNumber rest f = f ≡ fault.WideNumber (Some (stand file bytes rest))
-IsFaultOf file bytes error.TooNested rest f = f ≡ fault.TooNested (Some (stand file bytes rest))
+IsFaultOf file bytes error.NoMemory remaining f = ⊥
+IsFaultOf file bytes error.Unexpected remaining f = f ≡ syntax_fault file bytes remaining
+IsFaultOf file bytes error.WideNumber remaining f = f
+    ≡ fault.WideNumber (Some (next_span file bytes remaining))
+IsFaultOf file bytes error.TooNested remaining f = f
+    ≡ fault.TooNested (Some (next_span file bytes remaining))
 
--- how a reading of a whole file is told
-abbrev pub told : {A : Type 0} → ℕ → Bytes → Outcome A → Result A Fault
-told file bytes (Read a []) = Ok a
-told file bytes (Read a (t ∷ rest)) = Err (misfit file bytes (t ∷ rest))
-told file bytes (Stop Misfit rest) = Err (misfit file bytes rest)
-told file bytes (Stop Wide rest) = Err (fault.WideNumber (Some (stand file bytes rest)))
-told file bytes (Stop Deep rest) = Err (fault.TooNested (Some (stand file bytes rest)))
+-- how a reading of a whole file is reported
+abbrev pub result_of : {A : Type 0} → ℕ → Bytes → Outcome A → Result A Fault
+result_of file bytes (Read a []) = Ok a
+result_of file bytes (Read a (t ∷ remaining)) = Err (syntax_fault file bytes (t ∷ remaining))
+result_of file bytes (Stop UnexpectedToken remaining) = Err (syntax_fault file bytes remaining)
+result_of file bytes (Stop Wide remaining) = Err
+    (fault.WideNumber (Some (next_span file bytes remaining)))
+result_of file bytes (Stop Deep remaining) = Err
+    (fault.TooNested (Some (next_span file bytes remaining)))
 
--- the reading is told, unless memory runs out
-abbrev pub IsTold : {A : Type 0} → ℕ → Bytes → Outcome A → Result A Fault → Type 0
-IsTold file bytes o (Err fault.NoMemory) = Unit {0}
-IsTold file bytes o result = result ≡ told file bytes o
+-- the reading is reported, unless memory runs out
+abbrev pub IsResultOf : {A : Type 0} → ℕ → Bytes → Outcome A → Result A Fault → Type 0
+IsResultOf file bytes o (Err fault.NoMemory) = Unit {0}
+IsResultOf file bytes o result = result ≡ result_of file bytes o
 
--- The answer tells the reading within the limits, and what that says of the text.
-pub record Tells {A : Type 0} (L : ℕ → A → Tokens → Type 0) (is_low : A → Bool) (reader : Reader A) (file : ℕ) (bytes : Bytes) (result : Result A Fault) : Type 0 where
-  pub is : result ≡ told file bytes (reader (tokens file bytes))
-  pub verdict : Verdict L is_low (tokens file bytes) (reader (tokens file bytes))
+-- The answer reports the reading within the limits, and what that says of the text.
+pub record Reports {A : Type 0} (G : Bool → ℕ → A → Tokens → Type 0) (is_low : A → Bool) (reader : Reader A) (file : ℕ) (bytes : Bytes) (result : Result A Fault) : Type 0 where
+  pub is : result ≡ result_of file bytes (reader (tokens file bytes))
+  pub verdict : Verdict G is_low (tokens file bytes) (reader (tokens file bytes))
+  pub within : AreWithin G is_low (tokens file bytes) (remaining_of (reader (tokens file bytes)))
 
 -- what is answered of the bytes of a file, unless memory runs out
-abbrev pub Answers : {A : Type 0} → (ℕ → A → Tokens → Type 0) → (A → Bool) → Reader A → ℕ → Bytes → Result A Fault → Type 0
-Answers L is_low reader file bytes (Err fault.NoMemory) = Unit {0}
-Answers L is_low reader file bytes result = Tells L is_low reader file bytes result
+abbrev pub Answers : {A : Type 0} → (Bool → ℕ → A → Tokens → Type 0) → (A → Bool) → Reader A → ℕ → Bytes
+    → Result A Fault → Type 0
+Answers G is_low reader file bytes (Err fault.NoMemory) = Unit {0}
+Answers G is_low reader file bytes result = Reports G is_low reader file bytes result
+
+-- the value is answered, unless memory runs out
+abbrev pub IsAnswered : {A : Type 0} → A → Result A Fault → Type 0
+IsAnswered a (Err fault.NoMemory) = Unit {0}
+IsAnswered a result = result ≡ Ok a

@@ -2,9 +2,9 @@
 use Rattle.std.specs.Prelude.{ℕ, Bool, nat_lt, Result}
 use Rattle.smv_ast.specs.declared.syntax.Expr.{Expr}
 use Rattle.smv_ast.specs.declared.fault.Fault.{Fault}
-use Rattle.smv_expr.specs.Lexicon.{Bytes}
+use Rattle.smv_expr.specs.Lexicon.{Bytes, tokens}
 use Rattle.smv_expr.specs.Reading.{Reader}
-use Rattle.smv_expr.specs.Answer.{Answers}
+use Rattle.smv_expr.specs.Answer.{Answers, IsText}
 use Rattle.smv_expr.specs.Heights.{height}
 use Rattle.smv_expr.specs.Limits.{nesting_bound}
 use Rattle.smv_expr.specs.Limits.Limit.{Below}
@@ -22,3 +22,7 @@ limited_expr = read_expr nesting_bound (Below nesting_bound)
 -- what is answered of the bytes of a file, unless memory runs out
 abbrev pub ExprAnswer : ℕ → Bytes → Result Expr Fault → Type 0
 ExprAnswer = Answers expr is_low limited_expr
+
+-- the bytes of the file are this expression and no other, within the limits of numerals and nesting
+abbrev pub ReadsExpr : ℕ → Bytes → Expr → Type 0
+ReadsExpr file bytes a = IsText expr is_low (tokens file bytes) a

@@ -74,14 +74,16 @@ spelled table = map (λ entry. (entry.0.now, entry.1)) table
 -- the kind that stands with the word in a table; each other word is a name
 abbrev pub find_word : List (Bytes × Kind) → Bytes → Kind
 find_word [] word = k.Name
-find_word (entry ∷ more) word = if pointwise nat_eq entry.0 word then entry.1 else find_word more word
+find_word (entry ∷ more) word = if pointwise nat_eq entry.0 word then entry.1 else find_word more
+    word
 
 -- the first mark of a table with which the text begins; a byte that begins no mark is unknown
 abbrev pub find_mark : List (Bytes × Kind) → Bytes → Lexeme
 find_mark [] text = record { kind = k.Unknown; len = 1 }
-find_mark (entry ∷ more) text = if starts_with nat_eq text entry.0 then record { kind = entry.1; len = length entry.0 } else find_mark more text
+find_mark (entry ∷ more) text = if starts_with nat_eq text entry.0 then record
+    { kind = entry.1; len = length entry.0 } else find_mark more text
 
--- ---- what stands at the front of a text
+-- ---- what stands at the start of a text
 
 -- a name or a reserved word, as long as it goes
 unfoldable pub word_lexeme : Bytes → Lexeme
@@ -99,7 +101,8 @@ greatest_number = 2147483647
 
 -- a numeral is wide where it stands for a greater number
 abbrev pub numeral_kind : Bytes → Kind
-numeral_kind digits = if nat_le (numeral_value digits) greatest_number then k.Numeral else k.WideNumeral
+numeral_kind digits = if nat_le (numeral_value digits) greatest_number then k.Numeral else
+    k.WideNumeral
 
 -- a run of digits, as long as it goes
 unfoldable pub numeral_lexeme : Bytes → Lexeme
@@ -120,13 +123,14 @@ unfoldable pub first_lexeme : Bytes → Lexeme
 first_lexeme [] = record { kind = k.Unknown; len = 1 }
 first_lexeme (b ∷ more) =
     if is_blank b then record { kind = k.Space; len = 1 } else (
-    if begins_comment (b ∷ more) then record { kind = k.Space; len = length (take_while is_in_line (b ∷ more)) } else (
+    if begins_comment (b ∷ more) then record
+    { kind = k.Space; len = length (take_while is_in_line (b ∷ more)) } else (
     if is_letter b then word_lexeme (b ∷ more) else (
     if is_digit b then numeral_lexeme (b ∷ more) else mark_lexeme (b ∷ more))))
 
 -- ---- tokens
 
--- a token with its place and its spelling
+-- a token with its span and its spelling
 pub record Token : Type 0 where
   pub kind : Kind
   pub at : Span
@@ -136,15 +140,20 @@ pub record Token : Type 0 where
 unfoldable pub same_kind : Kind → Kind → Bool
 same_kind = sameb the_type
 
--- The tokens of a text that stands at an offset of a file, behind `left` bytes of the lexeme before.
+-- The tokens of a text that stands at an offset of a file, after `left` bytes of the lexeme before.
 abbrev pub tokens_in : ℕ → ℕ → ℕ → Bytes → List Token
 tokens_in left file at [] = []
 tokens_in (suc left) file at (b ∷ more) = tokens_in left file (at + 1) more
 tokens_in zero file at (b ∷ more) =
     let next = first_lexeme (b ∷ more) in
-    let behind = tokens_in (next.len - 1) file (at + 1) more in
-    if same_kind next.kind k.Space then behind
-    else record { kind = next.kind; at = record { file = file; at = at }; text = take next.len (b ∷ more) } ∷ behind
+    let later = tokens_in (next.len - 1) file (at + 1) more in
+    if same_kind next.kind k.Space then later
+    else record {
+      kind = next.kind;
+      at = record { file = file; at = at };
+      text = take next.len
+          (b ∷ more);
+    } ∷ later
 
 -- the tokens of a text that stands at an offset of a file
 abbrev pub tokens_from : ℕ → ℕ → Bytes → List Token

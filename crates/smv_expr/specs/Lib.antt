@@ -1,5 +1,5 @@
 pub mod Lexicon
-pub mod Ahead
+pub mod CursorView
 pub mod Language
 pub mod Reading
 pub mod ExprGrammar
@@ -9,4 +9,4 @@ pub mod Limits
 pub mod Answer
 pub mod Nests
 pub mod ExprAnswer
-pub mod ReadingBack
+pub mod RoundTrip

@@ -26,12 +26,15 @@ first_of Negated = first_expr
 first_of Signed = first_unary
 
 -- a part of an expression, of which each part has fewer than so many constructs open
-abbrev pub at_depth : {X : Type 0} → ((Limit → Reader Expr) → (Limit → Reader Expr) → (Limit → Reader Expr) → X) → ℕ → X
+abbrev pub at_depth : {X : Type 0}
+    → ((Limit → Reader Expr) → (Limit → Reader Expr) → (Limit → Reader Expr) → X) → ℕ → X
 at_depth part depth = part (read_expr depth) (read_not depth) (read_signed_expr depth)
 
 -- The function may be called, and reads what the specification reads.
 pub record Nests (depth : ℕ) (pre : Global → MutBor Tokens → ℕ → ℕ → Level → Type 0)
     (post : Global → MutBor Tokens → ℕ → ℕ → Level → Result Expr ReadError → MutBor Tokens → Type 0) : Type 0 where
-  pub callable : (alloc : Global) (old : MutBor Tokens) (bound : ℕ) (level : Level) → bound ≤ nesting_bound → pre alloc old depth bound level
-  pub gives : (alloc : Global) (old new : MutBor Tokens) (bound : ℕ) (level : Level) (r : Result Expr ReadError) → post alloc old depth bound level r new
+  pub callable : (alloc : Global) (old : MutBor Tokens) (bound : ℕ) (level : Level)
+      → bound ≤ nesting_bound → pre alloc old depth bound level
+  pub gives : (alloc : Global) (old new : MutBor Tokens) (bound : ℕ) (level : Level)
+      (r : Result Expr ReadError) → post alloc old depth bound level r new
       → Gives (read_level depth level (Below bound) old.now) r new.now

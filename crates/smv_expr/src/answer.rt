@@ -3,8 +3,8 @@
 ghost use Rattle.std.specs.Prelude.{◌≡◌, ◌<◌, ◌^◌, length, IfOk};
 ghost use Rattle.smv_expr.specs.Reading.{Outcome, Gives};
 ghost use Rattle.smv_expr.specs.Answer as spec;
-ghost use Rattle.smv_expr.specs.ExprAnswer.{ExprAnswer, limited_expr};
-ghost use Rattle.smv_expr.specs.ReadingBack.{Printable, ReadsBack};
+ghost use Rattle.smv_expr.specs.ExprAnswer.{ExprAnswer, ReadsExpr, limited_expr};
+ghost use Rattle.smv_expr.specs.RoundTrip.{Printable, IsRoundTrip};
 ghost use Rattle.smv_ast.specs.PrintedExpr.{printed_expr};
 ghost use Rattle.smv_ast.specs.declared.syntax.Expr.{Expr};
 
@@ -17,11 +17,11 @@ use smv_ast::{Expr, Fault, NoMemory, Span};
 use std::alloc::Global;
 
 /// Where the next token of the file stands, or the file ends.
-fn stand(tokens: &Cursor<'_>, file: u32, bytes: &[u8]) -> Span
+fn next_span(tokens: &Cursor<'_>, file: u32, bytes: &[u8]) -> Span
     requires { length bytes.now < 2 ^ 32 }
-    ensures { result ≡ spec.stand file bytes.now tokens.now }
+    ensures { result ≡ spec.next_span file bytes.now tokens.now }
 {
-    match tokens.place() {
+    match tokens.span() {
         Some(at) => at,
         None => Span {
             file,
@@ -30,12 +30,17 @@ fn stand(tokens: &Cursor<'_>, file: u32, bytes: &[u8]) -> Span
     }
 }
 
-/// The fault of a token with which no text goes on, or of the end of the file.
-fn misfit(alloc: Global, tokens: &Cursor<'_>, file: u32, bytes: &[u8]) -> Result<Fault, NoMemory>
+/// The fault of a token up to which no text begins, or of the end of the file.
+fn syntax_fault(
+    alloc: Global,
+    tokens: &Cursor<'_>,
+    file: u32,
+    bytes: &[u8],
+) -> Result<Fault, NoMemory>
     requires { length bytes.now < 2 ^ 32 }
-    ensures { IfOk result (λ fault. fault ≡ spec.misfit file bytes.now tokens.now) }
+    ensures { IfOk result (λ fault. fault ≡ spec.syntax_fault file bytes.now tokens.now) }
 {
-    let at = Some(stand(tokens, file, bytes));
+    let at = Some(next_span(tokens, file, bytes));
     if !tokens.sees(Kind::LeftOut) {
         return Ok(Fault::Syntax { at });
     }
@@ -54,10 +59,10 @@ fn fault(
     requires { length bytes.now < 2 ^ 32 }
     ensures { IfOk result (λ fault. spec.IsFaultOf file bytes.now error tokens.now fault) }
 {
-    let at = Some(stand(tokens, file, bytes));
+    let at = Some(next_span(tokens, file, bytes));
     match error {
         ReadError::NoMemory => Err(NoMemory),
-        ReadError::Unexpected => misfit(alloc, tokens, file, bytes),
+        ReadError::Unexpected => syntax_fault(alloc, tokens, file, bytes),
         ReadError::WideNumber => Ok(Fault::WideNumber { at }),
         ReadError::TooNested => Ok(Fault::TooNested { at }),
     }
@@ -74,13 +79,13 @@ pub fn answer<T: Drop>(
     bytes: &[u8],
 ) -> Result<T, Fault>
     requires { length bytes.now < 2 ^ 32 }
-    ensures { (o : Outcome T) → Gives o found tokens.now → spec.IsTold file bytes.now o result }
+    ensures { (o : Outcome T) → Gives o found tokens.now → spec.IsResultOf file bytes.now o result }
 {
     match found {
         Err(error) => Err(fault(alloc, error, tokens, file, bytes)?),
         Ok(value) => {
             if !tokens.is_at_end() {
-                return Err(misfit(alloc, tokens, file, bytes)?);
+                return Err(syntax_fault(alloc, tokens, file, bytes)?);
             }
             Ok(value)
         }
@@ -96,17 +101,23 @@ pub fn whole_expr(alloc: Global, tokens: &mut Cursor<'_>) -> Result<Expr, ReadEr
     Ok(tree.into_expr())
 }
 
-/// The expression that the bytes of a file are, which takes all of them.
+/// The expression that the bytes of a file are, which takes all of them. Each text within the limits is answered Ok.
 ///
-/// Else the fault at the first token with which, after the tokens before it, no expression goes on; the end of the
-/// file counts as such a token. It is LeftOut where the token is a word or a mark of SMV that is left out here, and
-/// Syntax elsewhere. WideNumber comes at a numeral over 2,147,483,647 that could stand there. TooNested comes at the
-/// first token before which more than 1,000 of `(`, `{`, `case`, `!`, `->` and `-` that negate are open, or with which
-/// an expression ends whose tree is higher than 1,000. The fault of the first of these tokens is answered.
+/// The end of the file counts as a token. The errors, each at the token with which it is first met:
+///
+/// - `Syntax`: no expression begins with the tokens up to this one, whatever the size of its numerals. `LeftOut` where the
+///   token is a word or a mark of SMV that is left out here.
+/// - `WideNumber`: a numeral over 2,147,483,647 that an expression may have there.
+/// - `TooNested`: before the token more than 1,000 of `(`, `{`, `case`, `!`, `->` and `-` that negate are open, or with it an
+///   expression ends whose tree is higher than 1,000. No expression within the limits begins with the tokens up to this one,
+///   and each beginning of the text that ends before it, and is an expression, is within them.
+/// - `NoMemory`: memory ran out.
 pub fn read_expr(alloc: Global, file: u32, bytes: &[u8]) -> Result<Expr, Fault>
     requires { length bytes.now < 2 ^ 32 }
     ensures answer { ExprAnswer file bytes.now result }
-    ensures back { (e : Expr) → Printable e → bytes.now ≡ printed_expr e → ReadsBack file bytes.now e result }
+    ensures complete { (a : Expr) → ReadsExpr file bytes.now a → spec.IsAnswered a result }
+    ensures round_trip { (e : Expr) → Printable e → bytes.now ≡ printed_expr e
+        → IsRoundTrip file bytes.now e result }
 {
     let mut tokens = Cursor::new(file, bytes);
     let found = whole_expr(alloc, &mut tokens);

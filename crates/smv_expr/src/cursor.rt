@@ -4,7 +4,7 @@ ghost use Rattle.std.specs.Prelude.{◌≡◌, ◌≢◌, ◌↔◌, ◌+◌, �
 ghost use Rattle.smv_expr.specs.declared.kind.Kind.TheVariants as k;
 ghost use Rattle.smv_expr.specs.Lexicon as spec;
 ghost use Rattle.smv_expr.specs.Lexicon.{IsNumeral};
-ghost use Rattle.smv_expr.specs.Language.{begins, begins_name, named, followed_by, kinds_of, find_kind, next_of, kind_of, place_of, text_of};
+ghost use Rattle.smv_expr.specs.Language.{begins, begins_name, named, followed_by, kinds_of, find_kind, next_of, kind_of, span_of, text_of};
 ghost use Rattle.smv_expr.specs.Reading.{Gives, Eats, read_leaf, read_word, read_name, read_numeral, read_one_of};
 ghost use Rattle.smv_expr.specs.ExprReaders.{read_limited};
 
@@ -23,7 +23,7 @@ fn same_kind(a: Kind, b: Kind) -> bool
     a == b
 }
 
-fn behind(text: &[u8], len: usize) -> &[u8]
+fn text_after(text: &[u8], len: usize) -> &[u8]
     requires { len ≤ length text.now }
     ensures { result.now ≡ drop len text.now }
 {
@@ -46,9 +46,9 @@ fn find_kind<T: Copy>(table: &[(Kind, T)], kind: Kind) -> Option<T>
 pub struct Cursor<'a> {
     file: u32,
     /// The text from the next token on, and its offset in the file.
-    rest: &'a [u8],
+    remaining: &'a [u8],
     at: usize,
-    /// The next token, which stands at the front of `rest`.
+    /// The next token, which stands at the start of `remaining`.
     next: Option<Lexeme>,
 }
 
@@ -58,7 +58,7 @@ impl<'a> Model for Cursor<'a> {
 
     ghost Value = { List Token };
 
-    ghost use Rattle.smv_expr.specs.Ahead.{tokens_left, IsReady};
+    ghost use Rattle.smv_expr.specs.CursorView.{tokens_left, IsReady};
 
     ghost view = { tokens_left };
 
@@ -70,24 +70,24 @@ fn cursor_at(file: u32, text: &[u8], offset: usize) -> Cursor<'_>
     requires { offset + length text.now < 2 ^ 32 }
     ensures { result ≡ spec.tokens_from file offset text.entry.now }
 {
-    let mut rest = text;
+    let mut remaining = text;
     let mut at = offset;
-    'blanks: while !rest.is_empty() {
-        let next = first_lexeme(rest);
+    'blanks: while !remaining.is_empty() {
+        let next = first_lexeme(remaining);
         if !same_kind(next.kind, Kind::Space) {
             return Cursor {
                 file,
-                rest,
+                remaining,
                 at,
                 next: Some(next),
             };
         }
-        rest = behind(rest, next.len);
+        remaining = text_after(remaining, next.len);
         at += next.len;
     }
     Cursor {
         file,
-        rest,
+        remaining,
         at,
         next: None,
     }
@@ -109,8 +109,8 @@ impl<'a> Cursor<'a> {
     }
 
     /// Where the next token stands. At the end of the file no token does.
-    pub fn place(&self) -> Option<Span>
-        ensures { result ≡ option_map place_of (next_of self.now) }
+    pub fn span(&self) -> Option<Span>
+        ensures { result ≡ option_map span_of (next_of self.now) }
     {
         match self.next {
             None => None,
@@ -141,15 +141,15 @@ impl<'a> Cursor<'a> {
         }
     }
 
-    /// Whether the token behind the next one is of this kind.
-    pub fn sees_behind(&self, kind: Kind) -> bool
+    /// Whether the token after the next one is of this kind.
+    pub fn sees_second(&self, kind: Kind) -> bool
         ensures { result ≡ followed_by kind self.now }
     {
         match self.next {
             None => false,
             Some(next) => {
-                let rest = behind(self.rest, next.len);
-                cursor_at(self.file, rest, self.at + next.len).sees(kind)
+                let remaining = text_after(self.remaining, next.len);
+                cursor_at(self.file, remaining, self.at + next.len).sees(kind)
             }
         }
     }
@@ -164,12 +164,12 @@ impl<'a> Cursor<'a> {
         }
     }
 
-    /// The next token's place.
+    /// The next token's span.
     fn here(&self) -> Span
         requires { IsSome (next_of self.now) }
-        ensures { option_map place_of (next_of self.now) ≡ Some result }
+        ensures { option_map span_of (next_of self.now) ≡ Some result }
     {
-        match self.place() {
+        match self.span() {
             None => unreachable!(),
             Some(at) => at,
         }
@@ -183,10 +183,10 @@ impl<'a> Cursor<'a> {
         ensures left_out { begins (k.LeftOut ∷ []) self.now ≡ true → All (λ b. b < 128) result.now }
         ensures numeral { begins (k.Numeral ∷ []) self.now ≡ true → IsNumeral result.now }
     {
-        let rest = self.rest;
+        let remaining = self.remaining;
         match self.next {
             None => unreachable!(),
-            Some(next) => &rest[..next.len],
+            Some(next) => &remaining[..next.len],
         }
     }
 
@@ -198,7 +198,11 @@ impl<'a> Cursor<'a> {
         let Some(next) = self.next else {
             unreachable!()
         };
-        *self = cursor_at(self.file, behind(self.rest, next.len), self.at + next.len);
+        *self = cursor_at(
+            self.file,
+            text_after(self.remaining, next.len),
+            self.at + next.len,
+        );
     }
 
     /// The text of the next token, which is a word or a mark that is left out.

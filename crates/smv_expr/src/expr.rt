@@ -1,7 +1,7 @@
 //! Whole expressions. Each function reads one part of the grammar, and stops at the first token at which an expression
 //! nests too deep: where too many constructs are open before the token, or where a tree that ends with it is too high.
 //!
-//! A `bound` is how high a tree may be that is read at some place: trees lower than it fit.
+//! A `bound` is how high a tree may be that is read at some point: trees lower than it fit.
 
 ghost use Rattle.std.specs.Prelude.{◌≡◌, ◌≤◌, [], ◌∷◌, false, ◌&&◌, not, IfOk};
 ghost use Rattle.smv_expr.specs.Language.{begins, kinds_of, number_kinds};
@@ -20,7 +20,7 @@ use crate::operand::{close, negative_interval, number, path, sign, single, up_to
 use smv_ast::{NoMemory, Op};
 use std::alloc::Global;
 
-/// Where the grammar of expressions leads back to itself.
+/// Where the grammar of expressions is recursive.
 #[derive(Clone, Copy, Debug, PartialEq, Eq)]
 pub enum Level {
     /// A whole expression.
@@ -62,8 +62,8 @@ fn sees_number(tokens: &Cursor<'_>) -> bool
 }
 
 /// Whether what comes may begin an operand without a sign and a digit.
-fn sees_bare(tokens: &Cursor<'_>) -> bool
-    ensures { result ≡ begins spec.first_bare tokens.now }
+fn sees_primary(tokens: &Cursor<'_>) -> bool
+    ensures { result ≡ begins spec.first_primary tokens.now }
 {
     tokens.sees(Kind::True)
         || tokens.sees(Kind::False)
@@ -85,18 +85,19 @@ pub fn sees_expr(tokens: &Cursor<'_>) -> bool
 fn sees_unary(tokens: &Cursor<'_>) -> bool
     ensures { result ≡ begins spec.first_unary tokens.now }
 {
-    sees_number(tokens) || tokens.sees(Kind::Minus) || sees_bare(tokens)
+    sees_number(tokens) || tokens.sees(Kind::Minus) || sees_primary(tokens)
 }
 
-/// Whether a row goes on with an operator of the table: not behind an operand that begins with `!`.
-fn goes_on(left: &Operand, tokens: &Cursor<'_>, table: &[(Kind, Op)]) -> bool
-    ensures { result ≡ (not (grammar.is_closed left.now) && begins (kinds_of table.now) tokens.now) }
+/// Whether a row goes on with an operator of the table: not after an operand that begins with `!`.
+fn continues(left: &Operand, tokens: &Cursor<'_>, table: &[(Kind, Op)]) -> bool
+    ensures { result ≡ (not (grammar.is_closed left.now)
+        && begins (kinds_of table.now) tokens.now) }
 {
     !left.is_closed() && tokens.sees_one_of(table)
 }
 
 /// The same, for the `in` of a choice.
-fn goes_in(left: &Operand, tokens: &Cursor<'_>) -> bool
+fn continues_in(left: &Operand, tokens: &Cursor<'_>) -> bool
     ensures { result ≡ (not (grammar.is_closed left.now) && begins (Kind.In ∷ []) tokens.now) }
 {
     !left.is_closed() && tokens.sees(Kind::In)
@@ -136,7 +137,7 @@ pub struct Grammar<F> {
     expr: F,
 }
 
-/// An expression with fewer than `depth` constructs open at a place, of a tree lower than `bound`.
+/// An expression with fewer than `depth` constructs open at any point, of a tree lower than `bound`.
 pub fn expr(
     alloc: Global,
     tokens: &mut Cursor<'_>,
@@ -166,7 +167,8 @@ impl<F: Fn(Global, &mut Cursor<'_>, usize, u32, Level) -> Result<Tree, ReadError
     fn expr(&self, tokens: &mut Cursor<'_>, bound: u32, level: Level) -> Result<Tree, ReadError>
         requires reads { Nests self.now.depth (F.pre self.now.expr) (F.post self.now.expr) }
         requires small { bound ≤ nesting_bound }
-        ensures { Gives (read_level self.now.depth level (Below bound) tokens.old) result tokens.new }
+        ensures { Gives (read_level self.now.depth level (Below bound) tokens.old) result
+            tokens.new }
     {
         (self.expr)(self.alloc, tokens, self.depth, bound, level)
     }
@@ -174,7 +176,8 @@ impl<F: Fn(Global, &mut Cursor<'_>, usize, u32, Level) -> Result<Tree, ReadError
     /// An expression of its own, as one in parentheses is.
     fn inner(&self, tokens: &mut Cursor<'_>) -> Result<Tree, ReadError>
         requires reads { Nests self.now.depth (F.pre self.now.expr) (F.post self.now.expr) }
-        ensures { Gives (spec.read_expr self.now.depth (Below nesting_bound) tokens.old) result tokens.new }
+        ensures { Gives (spec.read_expr self.now.depth (Below nesting_bound) tokens.old) result
+            tokens.new }
     {
         self.expr(tokens, NESTING_BOUND, Level::Whole)
     }
@@ -184,7 +187,8 @@ impl<F: Fn(Global, &mut Cursor<'_>, usize, u32, Level) -> Result<Tree, ReadError
     fn parens(&self, tokens: &mut Cursor<'_>, bound: u32) -> Result<Tree, ReadError>
         requires reads { Nests self.now.depth (F.pre self.now.expr) (F.post self.now.expr) }
         requires small { bound ≤ nesting_bound }
-        ensures { Gives (at_depth spec.read_parens self.now.depth (Below bound) tokens.old) result tokens.new }
+        ensures { Gives (at_depth spec.read_parens self.now.depth (Below bound) tokens.old) result
+            tokens.new }
     {
         tokens.expect(Kind::OpenParen)?;
         let inner = self.inner(tokens)?;
@@ -197,7 +201,8 @@ impl<F: Fn(Global, &mut Cursor<'_>, usize, u32, Level) -> Result<Tree, ReadError
     fn next_value(&self, tokens: &mut Cursor<'_>, bound: u32) -> Result<Tree, ReadError>
         requires reads { Nests self.now.depth (F.pre self.now.expr) (F.post self.now.expr) }
         requires small { bound ≤ nesting_bound }
-        ensures { Gives (at_depth spec.read_next_value self.now.depth (Below bound) tokens.old) result tokens.new }
+        ensures { Gives (at_depth spec.read_next_value self.now.depth (Below bound) tokens.old)
+            result tokens.new }
     {
         tokens.expect(Kind::Next)?;
         let inner = self.parens(tokens, inside(bound))?;
@@ -208,7 +213,8 @@ impl<F: Fn(Global, &mut Cursor<'_>, usize, u32, Level) -> Result<Tree, ReadError
     fn listed(&self, tokens: &mut Cursor<'_>, bound: u32) -> Result<Tree, ReadError>
         requires reads { Nests self.now.depth (F.pre self.now.expr) (F.post self.now.expr) }
         requires small { bound ≤ nesting_bound }
-        ensures { Gives (at_depth spec.read_listed self.now.depth (Below bound) tokens.old) result tokens.new }
+        ensures { Gives (at_depth spec.read_listed self.now.depth (Below bound) tokens.old) result
+            tokens.new }
     {
         tokens.expect(Kind::Comma)?;
         self.inner(tokens)
@@ -217,10 +223,11 @@ impl<F: Fn(Global, &mut Cursor<'_>, usize, u32, Level) -> Result<Tree, ReadError
     fn more_listed(&self, tokens: &mut Cursor<'_>, bound: u32) -> Result<Trees, ReadError>
         requires reads { Nests self.now.depth (F.pre self.now.expr) (F.post self.now.expr) }
         requires small { bound ≤ nesting_bound }
-        ensures { Gives (at_depth spec.read_more_listed self.now.depth (Below bound) tokens.old) result tokens.new }
+        ensures { Gives (at_depth spec.read_more_listed self.now.depth (Below bound) tokens.old)
+            result tokens.new }
     {
         let mut found = Trees::new(self.alloc);
-        'turns: while tokens.sees(Kind::Comma) {
+        'rounds: while tokens.sees(Kind::Comma) {
             let one = self.listed(tokens, bound)?;
             found.push(one)?;
         }
@@ -232,7 +239,8 @@ impl<F: Fn(Global, &mut Cursor<'_>, usize, u32, Level) -> Result<Tree, ReadError
     fn braces(&self, tokens: &mut Cursor<'_>, bound: u32) -> Result<Parts, ReadError>
         requires reads { Nests self.now.depth (F.pre self.now.expr) (F.post self.now.expr) }
         requires small { bound ≤ nesting_bound }
-        ensures { Gives (at_depth spec.read_braces self.now.depth (Below bound) tokens.old) result tokens.new }
+        ensures { Gives (at_depth spec.read_braces self.now.depth (Below bound) tokens.old) result
+            tokens.new }
     {
         tokens.expect(Kind::OpenBrace)?;
         let first = self.inner(tokens)?;
@@ -247,7 +255,8 @@ impl<F: Fn(Global, &mut Cursor<'_>, usize, u32, Level) -> Result<Tree, ReadError
     fn interval(&self, tokens: &mut Cursor<'_>, bound: u32) -> Result<Parts, ReadError>
         requires reads { Nests self.now.depth (F.pre self.now.expr) (F.post self.now.expr) }
         requires small { bound ≤ nesting_bound }
-        ensures { Gives (at_depth spec.read_interval self.now.depth (Below bound) tokens.old) result tokens.new }
+        ensures { Gives (at_depth spec.read_interval self.now.depth (Below bound) tokens.old) result
+            tokens.new }
     {
         let low = sign(tokens, true)?;
         let high = up_to(tokens, 0 < bound)?;
@@ -258,7 +267,8 @@ impl<F: Fn(Global, &mut Cursor<'_>, usize, u32, Level) -> Result<Tree, ReadError
     fn choice(&self, tokens: &mut Cursor<'_>, bound: u32) -> Result<Parts, ReadError>
         requires reads { Nests self.now.depth (F.pre self.now.expr) (F.post self.now.expr) }
         requires small { bound ≤ nesting_bound }
-        ensures { Gives (at_depth spec.read_choice self.now.depth (Below bound) tokens.old) result tokens.new }
+        ensures { Gives (at_depth spec.read_choice self.now.depth (Below bound) tokens.old) result
+            tokens.new }
     {
         if tokens.sees(Kind::OpenBrace) {
             self.braces(tokens, bound)
@@ -271,7 +281,8 @@ impl<F: Fn(Global, &mut Cursor<'_>, usize, u32, Level) -> Result<Tree, ReadError
     fn branch(&self, tokens: &mut Cursor<'_>, bound: u32) -> Result<Arm, ReadError>
         requires reads { Nests self.now.depth (F.pre self.now.expr) (F.post self.now.expr) }
         requires small { bound ≤ nesting_bound }
-        ensures { Gives (at_depth spec.read_branch self.now.depth (Below bound) tokens.old) result tokens.new }
+        ensures { Gives (at_depth spec.read_branch self.now.depth (Below bound) tokens.old) result
+            tokens.new }
     {
         let cond = self.inner(tokens)?;
         tokens.expect(Kind::Colon)?;
@@ -283,10 +294,11 @@ impl<F: Fn(Global, &mut Cursor<'_>, usize, u32, Level) -> Result<Tree, ReadError
     fn branches(&self, tokens: &mut Cursor<'_>, bound: u32) -> Result<Arms, ReadError>
         requires reads { Nests self.now.depth (F.pre self.now.expr) (F.post self.now.expr) }
         requires small { bound ≤ nesting_bound }
-        ensures { Gives (at_depth spec.read_branches self.now.depth (Below bound) tokens.old) result tokens.new }
+        ensures { Gives (at_depth spec.read_branches self.now.depth (Below bound) tokens.old) result
+            tokens.new }
     {
         let mut found = Arms::new(self.alloc);
-        'turns: while sees_expr(tokens) {
+        'rounds: while sees_expr(tokens) {
             let one = self.branch(tokens, bound)?;
             found.push(one)?;
         }
@@ -297,7 +309,8 @@ impl<F: Fn(Global, &mut Cursor<'_>, usize, u32, Level) -> Result<Tree, ReadError
     fn cases(&self, tokens: &mut Cursor<'_>, bound: u32) -> Result<Tree, ReadError>
         requires reads { Nests self.now.depth (F.pre self.now.expr) (F.post self.now.expr) }
         requires small { bound ≤ nesting_bound }
-        ensures { Gives (at_depth spec.read_cases self.now.depth (Below bound) tokens.old) result tokens.new }
+        ensures { Gives (at_depth spec.read_cases self.now.depth (Below bound) tokens.old) result
+            tokens.new }
     {
         tokens.expect(Kind::Case)?;
         let first = self.branch(tokens, bound)?;
@@ -308,11 +321,12 @@ impl<F: Fn(Global, &mut Cursor<'_>, usize, u32, Level) -> Result<Tree, ReadError
     }
 
     /// What begins with no sign and no digit.
-    #[tactic(auto, unfolding(crate::specs::ExprReaders::read_bare))]
-    fn bare(&self, tokens: &mut Cursor<'_>, bound: u32) -> Result<Tree, ReadError>
+    #[tactic(auto, unfolding(crate::specs::ExprReaders::read_primary))]
+    fn primary(&self, tokens: &mut Cursor<'_>, bound: u32) -> Result<Tree, ReadError>
         requires reads { Nests self.now.depth (F.pre self.now.expr) (F.post self.now.expr) }
         requires small { bound ≤ nesting_bound }
-        ensures { Gives (at_depth spec.read_bare self.now.depth (Below bound) tokens.old) result tokens.new }
+        ensures { Gives (at_depth spec.read_primary self.now.depth (Below bound) tokens.old) result
+            tokens.new }
     {
         if tokens.sees(Kind::True) {
             close(tokens, 1 < bound, Kind::True)?;
@@ -334,14 +348,15 @@ impl<F: Fn(Global, &mut Cursor<'_>, usize, u32, Level) -> Result<Tree, ReadError
         }
     }
 
-    /// What stands behind a `-` that is no operator.
+    /// What stands after a `-` that is no operator.
     #[tactic(auto, unfolding(crate::specs::ExprReaders::read_negated))]
     fn negated(&self, tokens: &mut Cursor<'_>, bound: u32) -> Result<Tree, ReadError>
         requires reads { Nests self.now.depth (F.pre self.now.expr) (F.post self.now.expr) }
         requires small { bound ≤ nesting_bound }
-        ensures { Gives (at_depth spec.read_negated self.now.depth (Below bound) tokens.old) result tokens.new }
+        ensures { Gives (at_depth spec.read_negated self.now.depth (Below bound) tokens.old) result
+            tokens.new }
     {
-        if sees_number(tokens) && tokens.sees_behind(Kind::DotDot) {
+        if sees_number(tokens) && tokens.sees_second(Kind::DotDot) {
             return negative_interval(self.alloc, tokens, 1 < bound);
         }
         let inner = self.expr(tokens, inside(bound), Level::Signed)?;
@@ -352,7 +367,8 @@ impl<F: Fn(Global, &mut Cursor<'_>, usize, u32, Level) -> Result<Tree, ReadError
     fn minus(&self, tokens: &mut Cursor<'_>, bound: u32) -> Result<Tree, ReadError>
         requires reads { Nests self.now.depth (F.pre self.now.expr) (F.post self.now.expr) }
         requires small { bound ≤ nesting_bound }
-        ensures { Gives (at_depth spec.read_minus self.now.depth (Below bound) tokens.old) result tokens.new }
+        ensures { Gives (at_depth spec.read_minus self.now.depth (Below bound) tokens.old) result
+            tokens.new }
     {
         tokens.expect(Kind::Minus)?;
         self.negated(tokens, bound)
@@ -363,12 +379,13 @@ impl<F: Fn(Global, &mut Cursor<'_>, usize, u32, Level) -> Result<Tree, ReadError
     fn signed(&self, tokens: &mut Cursor<'_>, bound: u32) -> Result<Tree, ReadError>
         requires reads { Nests self.now.depth (F.pre self.now.expr) (F.post self.now.expr) }
         requires small { bound ≤ nesting_bound }
-        ensures { Gives (at_depth spec.read_signed self.now.depth (Below bound) tokens.old) result tokens.new }
+        ensures { Gives (at_depth spec.read_signed self.now.depth (Below bound) tokens.old) result
+            tokens.new }
     {
         if tokens.sees(Kind::Minus) {
             self.minus(tokens, bound)
         } else {
-            self.bare(tokens, bound)
+            self.primary(tokens, bound)
         }
     }
 
@@ -377,7 +394,8 @@ impl<F: Fn(Global, &mut Cursor<'_>, usize, u32, Level) -> Result<Tree, ReadError
     fn unary(&self, tokens: &mut Cursor<'_>, bound: u32) -> Result<Tree, ReadError>
         requires reads { Nests self.now.depth (F.pre self.now.expr) (F.post self.now.expr) }
         requires small { bound ≤ nesting_bound }
-        ensures { Gives (at_depth spec.read_unary self.now.depth (Below bound) tokens.old) result tokens.new }
+        ensures { Gives (at_depth spec.read_unary self.now.depth (Below bound) tokens.old) result
+            tokens.new }
     {
         if sees_number(tokens) {
             number(self.alloc, tokens, 1 < bound)
@@ -386,12 +404,13 @@ impl<F: Fn(Global, &mut Cursor<'_>, usize, u32, Level) -> Result<Tree, ReadError
         }
     }
 
-    /// What stands behind a `-` that negates.
+    /// What stands after a `-` that negates.
     #[tactic(auto, unfolding(crate::specs::ExprReaders::read_negatable))]
     fn negatable(&self, tokens: &mut Cursor<'_>, bound: u32) -> Result<Tree, ReadError>
         requires reads { Nests self.now.depth (F.pre self.now.expr) (F.post self.now.expr) }
         requires small { bound ≤ nesting_bound }
-        ensures { Gives (at_depth spec.read_negatable self.now.depth (Below bound) tokens.old) result tokens.new }
+        ensures { Gives (at_depth spec.read_negatable self.now.depth (Below bound) tokens.old)
+            result tokens.new }
     {
         if sees_number(tokens) {
             single(self.alloc, tokens, 1 < bound)
@@ -404,7 +423,8 @@ impl<F: Fn(Global, &mut Cursor<'_>, usize, u32, Level) -> Result<Tree, ReadError
     fn negation(&self, tokens: &mut Cursor<'_>, bound: u32) -> Result<Tree, ReadError>
         requires reads { Nests self.now.depth (F.pre self.now.expr) (F.post self.now.expr) }
         requires small { bound ≤ nesting_bound }
-        ensures { Gives (at_depth spec.read_negation self.now.depth (Below bound) tokens.old) result tokens.new }
+        ensures { Gives (at_depth spec.read_negation self.now.depth (Below bound) tokens.old) result
+            tokens.new }
     {
         tokens.expect(Kind::Not)?;
         let inner = self.expr(tokens, inside(bound), Level::Negated)?;
@@ -413,41 +433,44 @@ impl<F: Fn(Global, &mut Cursor<'_>, usize, u32, Level) -> Result<Tree, ReadError
 
     /// An operand that begins with `!`.
     #[tactic(auto, unfolding(crate::specs::ExprReaders::read_closed))]
-    fn closed(&self, tokens: &mut Cursor<'_>, bound: u32) -> Result<Operand, ReadError>
+    fn closed_operand(&self, tokens: &mut Cursor<'_>, bound: u32) -> Result<Operand, ReadError>
         requires reads { Nests self.now.depth (F.pre self.now.expr) (F.post self.now.expr) }
         requires small { bound ≤ nesting_bound }
-        ensures { Gives (at_depth spec.read_closed self.now.depth (Below bound) tokens.old) result tokens.new }
+        ensures { Gives (at_depth spec.read_closed self.now.depth (Below bound) tokens.old) result
+            tokens.new }
     {
         let tree = self.negation(tokens, bound)?;
-        Ok(Operand::closed(tree))
+        Ok(Operand::closed_operand(tree))
     }
 
     #[tactic(auto, unfolding(crate::specs::ExprReaders::read_operand))]
     fn operand(&self, tokens: &mut Cursor<'_>, bound: u32) -> Result<Operand, ReadError>
         requires reads { Nests self.now.depth (F.pre self.now.expr) (F.post self.now.expr) }
         requires small { bound ≤ nesting_bound }
-        ensures { Gives (at_depth spec.read_operand self.now.depth (Below bound) tokens.old) result tokens.new }
+        ensures { Gives (at_depth spec.read_operand self.now.depth (Below bound) tokens.old) result
+            tokens.new }
     {
         let tree = self.unary(tokens, bound)?;
-        Ok(Operand::still(tree))
+        Ok(Operand::open_operand(tree))
     }
 
     #[tactic(auto, unfolding(crate::specs::ExprReaders::read_term_item))]
-    fn product_item(&self, tokens: &mut Cursor<'_>, bound: u32) -> Result<(Op, Operand), ReadError>
+    fn term_item(&self, tokens: &mut Cursor<'_>, bound: u32) -> Result<(Op, Operand), ReadError>
         requires reads { Nests self.now.depth (F.pre self.now.expr) (F.post self.now.expr) }
         requires small { bound ≤ nesting_bound }
-        ensures { Gives (at_depth spec.read_term_item self.now.depth (Below bound) tokens.old) result tokens.new }
+        ensures { Gives (at_depth spec.read_term_item self.now.depth (Below bound) tokens.old)
+            result tokens.new }
     {
         let op = tokens.one_of(&PRODUCTS)?;
         let right = if tokens.sees(Kind::Not) {
-            self.closed(tokens, bound)?
+            self.closed_operand(tokens, bound)?
         } else {
             self.operand(tokens, bound)?
         };
         Ok((op, right))
     }
 
-    fn more_product(
+    fn more_term(
         &self,
         tokens: &mut Cursor<'_>,
         bound: u32,
@@ -455,37 +478,40 @@ impl<F: Fn(Global, &mut Cursor<'_>, usize, u32, Level) -> Result<Tree, ReadError
     ) -> Result<Operand, ReadError>
         requires reads { Nests self.now.depth (F.pre self.now.expr) (F.post self.now.expr) }
         requires small { bound ≤ nesting_bound }
-        ensures { Gives (at_depth spec.read_more_term self.now.depth (Below bound) first tokens.old) result tokens.new }
+        ensures { Gives (at_depth spec.read_more_term self.now.depth (Below bound) first tokens.old)
+            result tokens.new }
     {
         let mut left = first;
-        'turns: while goes_on(&left, tokens, &PRODUCTS) {
-            let (op, right) = self.product_item(tokens, left.beside(bound))?;
+        'rounds: while continues(&left, tokens, &PRODUCTS) {
+            let (op, right) = self.term_item(tokens, left.beside(bound))?;
             left = Operand::binary(self.alloc, op, left, right)?;
         }
         Ok(left)
     }
 
     #[tactic(auto, unfolding(crate::specs::ExprReaders::read_term))]
-    fn product(&self, tokens: &mut Cursor<'_>, bound: u32) -> Result<Operand, ReadError>
+    fn term(&self, tokens: &mut Cursor<'_>, bound: u32) -> Result<Operand, ReadError>
         requires reads { Nests self.now.depth (F.pre self.now.expr) (F.post self.now.expr) }
         requires small { bound ≤ nesting_bound }
-        ensures { Gives (at_depth spec.read_term self.now.depth (Below bound) tokens.old) result tokens.new }
+        ensures { Gives (at_depth spec.read_term self.now.depth (Below bound) tokens.old) result
+            tokens.new }
     {
         let first = self.operand(tokens, bound)?;
-        self.more_product(tokens, bound, first)
+        self.more_term(tokens, bound, first)
     }
 
     #[tactic(auto, unfolding(crate::specs::ExprReaders::read_sum_item))]
     fn sum_item(&self, tokens: &mut Cursor<'_>, bound: u32) -> Result<(Op, Operand), ReadError>
         requires reads { Nests self.now.depth (F.pre self.now.expr) (F.post self.now.expr) }
         requires small { bound ≤ nesting_bound }
-        ensures { Gives (at_depth spec.read_sum_item self.now.depth (Below bound) tokens.old) result tokens.new }
+        ensures { Gives (at_depth spec.read_sum_item self.now.depth (Below bound) tokens.old) result
+            tokens.new }
     {
         let op = tokens.one_of(&SUMS)?;
         let right = if tokens.sees(Kind::Not) {
-            self.closed(tokens, bound)?
+            self.closed_operand(tokens, bound)?
         } else {
-            self.product(tokens, bound)?
+            self.term(tokens, bound)?
         };
         Ok((op, right))
     }
@@ -498,10 +524,11 @@ impl<F: Fn(Global, &mut Cursor<'_>, usize, u32, Level) -> Result<Tree, ReadError
     ) -> Result<Operand, ReadError>
         requires reads { Nests self.now.depth (F.pre self.now.expr) (F.post self.now.expr) }
         requires small { bound ≤ nesting_bound }
-        ensures { Gives (at_depth spec.read_more_sum self.now.depth (Below bound) first tokens.old) result tokens.new }
+        ensures { Gives (at_depth spec.read_more_sum self.now.depth (Below bound) first tokens.old)
+            result tokens.new }
     {
         let mut left = first;
-        'turns: while goes_on(&left, tokens, &SUMS) {
+        'rounds: while continues(&left, tokens, &SUMS) {
             let (op, right) = self.sum_item(tokens, left.beside(bound))?;
             left = Operand::binary(self.alloc, op, left, right)?;
         }
@@ -512,7 +539,8 @@ impl<F: Fn(Global, &mut Cursor<'_>, usize, u32, Level) -> Result<Tree, ReadError
     fn in_choice(&self, tokens: &mut Cursor<'_>, bound: u32) -> Result<Parts, ReadError>
         requires reads { Nests self.now.depth (F.pre self.now.expr) (F.post self.now.expr) }
         requires small { bound ≤ nesting_bound }
-        ensures { Gives (at_depth spec.read_in_choice self.now.depth (Below bound) tokens.old) result tokens.new }
+        ensures { Gives (at_depth spec.read_in_choice self.now.depth (Below bound) tokens.old)
+            result tokens.new }
     {
         tokens.expect(Kind::In)?;
         self.choice(tokens, bound)
@@ -526,10 +554,11 @@ impl<F: Fn(Global, &mut Cursor<'_>, usize, u32, Level) -> Result<Tree, ReadError
     ) -> Result<Operand, ReadError>
         requires reads { Nests self.now.depth (F.pre self.now.expr) (F.post self.now.expr) }
         requires small { bound ≤ nesting_bound }
-        ensures { Gives (at_depth spec.read_more_within self.now.depth (Below bound) first tokens.old) result tokens.new }
+        ensures { Gives (at_depth spec.read_more_within self.now.depth (Below bound) first
+            tokens.old) result tokens.new }
     {
         let mut left = first;
-        'turns: while goes_in(&left, tokens) {
+        'rounds: while continues_in(&left, tokens) {
             let choice = self.in_choice(tokens, left.beside(bound))?;
             left = Operand::within(self.alloc, left, choice)?;
         }
@@ -540,11 +569,12 @@ impl<F: Fn(Global, &mut Cursor<'_>, usize, u32, Level) -> Result<Tree, ReadError
     fn within(&self, tokens: &mut Cursor<'_>, bound: u32) -> Result<Operand, ReadError>
         requires reads { Nests self.now.depth (F.pre self.now.expr) (F.post self.now.expr) }
         requires small { bound ≤ nesting_bound }
-        ensures { Gives (at_depth spec.read_within self.now.depth (Below bound) tokens.old) result tokens.new }
+        ensures { Gives (at_depth spec.read_within self.now.depth (Below bound) tokens.old) result
+            tokens.new }
     {
         let operand = self.operand(tokens, bound)?;
-        let product = self.more_product(tokens, bound, operand)?;
-        let sum = self.more_sum(tokens, bound, product)?;
+        let term = self.more_term(tokens, bound, operand)?;
+        let sum = self.more_sum(tokens, bound, term)?;
         self.more_within(tokens, bound, sum)
     }
 
@@ -556,11 +586,12 @@ impl<F: Fn(Global, &mut Cursor<'_>, usize, u32, Level) -> Result<Tree, ReadError
     ) -> Result<(Op, Operand), ReadError>
         requires reads { Nests self.now.depth (F.pre self.now.expr) (F.post self.now.expr) }
         requires small { bound ≤ nesting_bound }
-        ensures { Gives (at_depth spec.read_comparison_item self.now.depth (Below bound) tokens.old) result tokens.new }
+        ensures { Gives (at_depth spec.read_comparison_item self.now.depth (Below bound) tokens.old)
+            result tokens.new }
     {
         let op = tokens.one_of(&COMPARISONS)?;
         let right = if tokens.sees(Kind::Not) {
-            self.closed(tokens, bound)?
+            self.closed_operand(tokens, bound)?
         } else {
             self.within(tokens, bound)?
         };
@@ -575,10 +606,11 @@ impl<F: Fn(Global, &mut Cursor<'_>, usize, u32, Level) -> Result<Tree, ReadError
     ) -> Result<Operand, ReadError>
         requires reads { Nests self.now.depth (F.pre self.now.expr) (F.post self.now.expr) }
         requires small { bound ≤ nesting_bound }
-        ensures { Gives (at_depth spec.read_more_comparison self.now.depth (Below bound) first tokens.old) result tokens.new }
+        ensures { Gives (at_depth spec.read_more_comparison self.now.depth (Below bound) first
+            tokens.old) result tokens.new }
     {
         let mut left = first;
-        'turns: while goes_on(&left, tokens, &COMPARISONS) {
+        'rounds: while continues(&left, tokens, &COMPARISONS) {
             let (op, right) = self.comparison_item(tokens, left.beside(bound))?;
             left = Operand::binary(self.alloc, op, left, right)?;
         }
@@ -589,11 +621,12 @@ impl<F: Fn(Global, &mut Cursor<'_>, usize, u32, Level) -> Result<Tree, ReadError
     fn comparison(&self, tokens: &mut Cursor<'_>, bound: u32) -> Result<Operand, ReadError>
         requires reads { Nests self.now.depth (F.pre self.now.expr) (F.post self.now.expr) }
         requires small { bound ≤ nesting_bound }
-        ensures { Gives (at_depth spec.read_comparison self.now.depth (Below bound) tokens.old) result tokens.new }
+        ensures { Gives (at_depth spec.read_comparison self.now.depth (Below bound) tokens.old)
+            result tokens.new }
     {
         let operand = self.operand(tokens, bound)?;
-        let product = self.more_product(tokens, bound, operand)?;
-        let sum = self.more_sum(tokens, bound, product)?;
+        let term = self.more_term(tokens, bound, operand)?;
+        let sum = self.more_sum(tokens, bound, term)?;
         let within = self.more_within(tokens, bound, sum)?;
         self.more_comparison(tokens, bound, within)
     }
@@ -602,7 +635,8 @@ impl<F: Fn(Global, &mut Cursor<'_>, usize, u32, Level) -> Result<Tree, ReadError
     fn not_level(&self, tokens: &mut Cursor<'_>, bound: u32) -> Result<Tree, ReadError>
         requires reads { Nests self.now.depth (F.pre self.now.expr) (F.post self.now.expr) }
         requires small { bound ≤ nesting_bound }
-        ensures { Gives (at_depth spec.read_not_level self.now.depth (Below bound) tokens.old) result tokens.new }
+        ensures { Gives (at_depth spec.read_not_level self.now.depth (Below bound) tokens.old)
+            result tokens.new }
     {
         if tokens.sees(Kind::Not) {
             self.negation(tokens, bound)
@@ -616,7 +650,8 @@ impl<F: Fn(Global, &mut Cursor<'_>, usize, u32, Level) -> Result<Tree, ReadError
     fn and_item(&self, tokens: &mut Cursor<'_>, bound: u32) -> Result<(Op, Tree), ReadError>
         requires reads { Nests self.now.depth (F.pre self.now.expr) (F.post self.now.expr) }
         requires small { bound ≤ nesting_bound }
-        ensures { Gives (at_depth spec.read_and_item self.now.depth (Below bound) tokens.old) result tokens.new }
+        ensures { Gives (at_depth spec.read_and_item self.now.depth (Below bound) tokens.old) result
+            tokens.new }
     {
         let op = tokens.one_of(&CONJUNCTIONS)?;
         let right = self.not_level(tokens, bound)?;
@@ -626,10 +661,11 @@ impl<F: Fn(Global, &mut Cursor<'_>, usize, u32, Level) -> Result<Tree, ReadError
     fn more_and(&self, tokens: &mut Cursor<'_>, bound: u32, first: Tree) -> Result<Tree, ReadError>
         requires reads { Nests self.now.depth (F.pre self.now.expr) (F.post self.now.expr) }
         requires small { bound ≤ nesting_bound }
-        ensures { Gives (at_depth spec.read_more_and self.now.depth (Below bound) first tokens.old) result tokens.new }
+        ensures { Gives (at_depth spec.read_more_and self.now.depth (Below bound) first tokens.old)
+            result tokens.new }
     {
         let mut left = first;
-        'turns: while tokens.sees_one_of(&CONJUNCTIONS) {
+        'rounds: while tokens.sees_one_of(&CONJUNCTIONS) {
             let (op, right) = self.and_item(tokens, left.beside(bound))?;
             left = Tree::binary(self.alloc, op, left, right)?;
         }
@@ -637,10 +673,11 @@ impl<F: Fn(Global, &mut Cursor<'_>, usize, u32, Level) -> Result<Tree, ReadError
     }
 
     #[tactic(auto, unfolding(crate::specs::ExprReaders::read_and_level))]
-    fn conjunction(&self, tokens: &mut Cursor<'_>, bound: u32) -> Result<Tree, ReadError>
+    fn and_level(&self, tokens: &mut Cursor<'_>, bound: u32) -> Result<Tree, ReadError>
         requires reads { Nests self.now.depth (F.pre self.now.expr) (F.post self.now.expr) }
         requires small { bound ≤ nesting_bound }
-        ensures { Gives (at_depth spec.read_and_level self.now.depth (Below bound) tokens.old) result tokens.new }
+        ensures { Gives (at_depth spec.read_and_level self.now.depth (Below bound) tokens.old)
+            result tokens.new }
     {
         let first = self.not_level(tokens, bound)?;
         self.more_and(tokens, bound, first)
@@ -650,20 +687,22 @@ impl<F: Fn(Global, &mut Cursor<'_>, usize, u32, Level) -> Result<Tree, ReadError
     fn or_item(&self, tokens: &mut Cursor<'_>, bound: u32) -> Result<(Op, Tree), ReadError>
         requires reads { Nests self.now.depth (F.pre self.now.expr) (F.post self.now.expr) }
         requires small { bound ≤ nesting_bound }
-        ensures { Gives (at_depth spec.read_or_item self.now.depth (Below bound) tokens.old) result tokens.new }
+        ensures { Gives (at_depth spec.read_or_item self.now.depth (Below bound) tokens.old) result
+            tokens.new }
     {
         let op = tokens.one_of(&DISJUNCTIONS)?;
-        let right = self.conjunction(tokens, bound)?;
+        let right = self.and_level(tokens, bound)?;
         Ok((op, right))
     }
 
     fn more_or(&self, tokens: &mut Cursor<'_>, bound: u32, first: Tree) -> Result<Tree, ReadError>
         requires reads { Nests self.now.depth (F.pre self.now.expr) (F.post self.now.expr) }
         requires small { bound ≤ nesting_bound }
-        ensures { Gives (at_depth spec.read_more_or self.now.depth (Below bound) first tokens.old) result tokens.new }
+        ensures { Gives (at_depth spec.read_more_or self.now.depth (Below bound) first tokens.old)
+            result tokens.new }
     {
         let mut left = first;
-        'turns: while tokens.sees_one_of(&DISJUNCTIONS) {
+        'rounds: while tokens.sees_one_of(&DISJUNCTIONS) {
             let (op, right) = self.or_item(tokens, left.beside(bound))?;
             left = Tree::binary(self.alloc, op, left, right)?;
         }
@@ -671,34 +710,37 @@ impl<F: Fn(Global, &mut Cursor<'_>, usize, u32, Level) -> Result<Tree, ReadError
     }
 
     #[tactic(auto, unfolding(crate::specs::ExprReaders::read_or_level, crate::specs::ExprReaders::read_and_level))]
-    fn disjunction(&self, tokens: &mut Cursor<'_>, bound: u32) -> Result<Tree, ReadError>
+    fn or_level(&self, tokens: &mut Cursor<'_>, bound: u32) -> Result<Tree, ReadError>
         requires reads { Nests self.now.depth (F.pre self.now.expr) (F.post self.now.expr) }
         requires small { bound ≤ nesting_bound }
-        ensures { Gives (at_depth spec.read_or_level self.now.depth (Below bound) tokens.old) result tokens.new }
+        ensures { Gives (at_depth spec.read_or_level self.now.depth (Below bound) tokens.old) result
+            tokens.new }
     {
         let operand = self.not_level(tokens, bound)?;
-        let conjunction = self.more_and(tokens, bound, operand)?;
-        self.more_or(tokens, bound, conjunction)
+        let and_level = self.more_and(tokens, bound, operand)?;
+        self.more_or(tokens, bound, and_level)
     }
 
     #[tactic(auto, unfolding(crate::specs::ExprReaders::read_iff_item))]
     fn iff_item(&self, tokens: &mut Cursor<'_>, bound: u32) -> Result<(Op, Tree), ReadError>
         requires reads { Nests self.now.depth (F.pre self.now.expr) (F.post self.now.expr) }
         requires small { bound ≤ nesting_bound }
-        ensures { Gives (at_depth spec.read_iff_item self.now.depth (Below bound) tokens.old) result tokens.new }
+        ensures { Gives (at_depth spec.read_iff_item self.now.depth (Below bound) tokens.old) result
+            tokens.new }
     {
         let op = tokens.one_of(&EQUIVALENCES)?;
-        let right = self.disjunction(tokens, bound)?;
+        let right = self.or_level(tokens, bound)?;
         Ok((op, right))
     }
 
     fn more_iff(&self, tokens: &mut Cursor<'_>, bound: u32, first: Tree) -> Result<Tree, ReadError>
         requires reads { Nests self.now.depth (F.pre self.now.expr) (F.post self.now.expr) }
         requires small { bound ≤ nesting_bound }
-        ensures { Gives (at_depth spec.read_more_iff self.now.depth (Below bound) first tokens.old) result tokens.new }
+        ensures { Gives (at_depth spec.read_more_iff self.now.depth (Below bound) first tokens.old)
+            result tokens.new }
     {
         let mut left = first;
-        'turns: while tokens.sees_one_of(&EQUIVALENCES) {
+        'rounds: while tokens.sees_one_of(&EQUIVALENCES) {
             let (op, right) = self.iff_item(tokens, left.beside(bound))?;
             left = Tree::binary(self.alloc, op, left, right)?;
         }
@@ -706,22 +748,24 @@ impl<F: Fn(Global, &mut Cursor<'_>, usize, u32, Level) -> Result<Tree, ReadError
     }
 
     #[tactic(auto, unfolding(crate::specs::ExprReaders::read_iff_level, crate::specs::ExprReaders::read_or_level, crate::specs::ExprReaders::read_and_level))]
-    fn equivalence(&self, tokens: &mut Cursor<'_>, bound: u32) -> Result<Tree, ReadError>
+    fn iff_level(&self, tokens: &mut Cursor<'_>, bound: u32) -> Result<Tree, ReadError>
         requires reads { Nests self.now.depth (F.pre self.now.expr) (F.post self.now.expr) }
         requires small { bound ≤ nesting_bound }
-        ensures { Gives (at_depth spec.read_iff_level self.now.depth (Below bound) tokens.old) result tokens.new }
+        ensures { Gives (at_depth spec.read_iff_level self.now.depth (Below bound) tokens.old)
+            result tokens.new }
     {
         let operand = self.not_level(tokens, bound)?;
-        let conjunction = self.more_and(tokens, bound, operand)?;
-        let disjunction = self.more_or(tokens, bound, conjunction)?;
-        self.more_iff(tokens, bound, disjunction)
+        let and_level = self.more_and(tokens, bound, operand)?;
+        let or_level = self.more_or(tokens, bound, and_level)?;
+        self.more_iff(tokens, bound, or_level)
     }
 
     #[tactic(auto, unfolding(crate::specs::ExprReaders::read_conclusion))]
     fn conclusion(&self, tokens: &mut Cursor<'_>, bound: u32) -> Result<Tree, ReadError>
         requires reads { Nests self.now.depth (F.pre self.now.expr) (F.post self.now.expr) }
         requires small { bound ≤ nesting_bound }
-        ensures { Gives (at_depth spec.read_conclusion self.now.depth (Below bound) tokens.old) result tokens.new }
+        ensures { Gives (at_depth spec.read_conclusion self.now.depth (Below bound) tokens.old)
+            result tokens.new }
     {
         tokens.expect(Kind::Implies)?;
         self.expr(tokens, bound, Level::Whole)
@@ -731,9 +775,10 @@ impl<F: Fn(Global, &mut Cursor<'_>, usize, u32, Level) -> Result<Tree, ReadError
     fn whole(&self, tokens: &mut Cursor<'_>, bound: u32) -> Result<Tree, ReadError>
         requires reads { Nests self.now.depth (F.pre self.now.expr) (F.post self.now.expr) }
         requires small { bound ≤ nesting_bound }
-        ensures { Gives (at_depth spec.read_whole self.now.depth (Below bound) tokens.old) result tokens.new }
+        ensures { Gives (at_depth spec.read_whole self.now.depth (Below bound) tokens.old) result
+            tokens.new }
     {
-        let left = self.equivalence(tokens, bound)?;
+        let left = self.iff_level(tokens, bound)?;
         if !tokens.sees(Kind::Implies) {
             return Ok(left);
         }

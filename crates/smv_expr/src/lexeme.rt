@@ -1,4 +1,4 @@
-//! What stands at the front of a text.
+//! What stands at the start of a text.
 
 ghost use Rattle.std.specs.Prelude.{◌≡◌, ◌<◌, ◌≤◌, length, take_while};
 ghost use Rattle.smv_expr.specs.Lexicon as spec;
@@ -240,7 +240,7 @@ fn mark_lexeme(text: &[u8]) -> Lexeme
     find_mark(&MARKS, text)
 }
 
-/// What stands at the front of the text.
+/// What stands at the start of the text.
 #[tactic(auto, unfolding(crate::specs::Lexicon::first_lexeme))]
 pub fn first_lexeme(text: &[u8]) -> Lexeme
     requires { 0 < length text.now }

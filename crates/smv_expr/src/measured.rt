@@ -1,6 +1,6 @@
 //! Trees as they are read, each with its height.
 //!
-//! A tree of one node has height 1, and heights past the limit of nesting are not told apart. Contracts see the trees
+//! A tree of one node has height 1, and heights past the limit of nesting are not distinguished. Contracts see the trees
 //! alone.
 
 ghost use Rattle.std.specs.Prelude.{◌≡◌, ℕ, ◌≤◌, ◌<◌, suc, max, List, [], ◌∷◌, ◌++◌, true, false, IfOk};
@@ -15,7 +15,7 @@ use smv_ast::{Boxed, Branch, Choice, Expr, List, NoMemory, Op, Path};
 use std::alloc::Global;
 use std::marker::Model;
 
-/// No tree is higher than a thousand, and no more than a thousand constructs are open at a place: both are below this
+/// No tree is higher than a thousand, and no more than a thousand constructs are open at any point: both are below this
 /// number.
 pub const NESTING_BOUND: u32 = 1001;
 
@@ -161,7 +161,7 @@ impl Tree {
         })
     }
 
-    /// A case, of its first branch and the branches behind it.
+    /// A case, of its first branch and the branches after it.
     #[tactic(auto, using(crate::proofs::HeightLemmas::height_all_cases))]
     pub fn cases(alloc: Global, first: Arm, more: Arms) -> Result<Tree, NoMemory>
         ensures { IfOk result (λ t. t ≡ Expr.Cases (first ∷ more)) }
@@ -233,8 +233,8 @@ impl Model for Operand {
 
 impl Operand {
     /// One that does not end so.
-    pub fn still(tree: Tree) -> Operand
-        ensures { result ≡ grammar.still tree }
+    pub fn open_operand(tree: Tree) -> Operand
+        ensures { result ≡ grammar.open_operand tree }
     {
         Operand {
             tree,
@@ -243,8 +243,8 @@ impl Operand {
     }
 
     /// One that begins with `!`.
-    pub fn closed(tree: Tree) -> Operand
-        ensures { result ≡ grammar.closed tree }
+    pub fn closed_operand(tree: Tree) -> Operand
+        ensures { result ≡ grammar.closed_operand tree }
     {
         Operand {
             tree,
@@ -329,7 +329,7 @@ impl Parts {
         }
     }
 
-    /// The first expression, and those behind it.
+    /// The first expression, and those after it.
     #[tactic(auto, using(crate::proofs::HeightLemmas::height_all_parts))]
     pub fn each(alloc: Global, first: Tree, more: Trees) -> Result<Parts, NoMemory>
         ensures { IfOk result (λ p. p ≡ Choice.Each (first ∷ more)) }
@@ -386,7 +386,7 @@ impl Trees {
         }
     }
 
-    /// Adds the tree behind the others. After `NoMemory` there are the same.
+    /// Adds the tree after the others. After `NoMemory` there are the same.
     pub fn push(&mut self, tree: Tree) -> Result<(), NoMemory>
         ensures { IfOk result (λ _. self.new ≡ self.old ++ tree ∷ []) }
     {
@@ -470,7 +470,7 @@ impl Arms {
         }
     }
 
-    /// Adds the branch behind the others. After `NoMemory` there are the same.
+    /// Adds the branch after the others. After `NoMemory` there are the same.
     pub fn push(&mut self, arm: Arm) -> Result<(), NoMemory>
         ensures { IfOk result (λ _. self.new ≡ self.old ++ arm ∷ []) }
     {

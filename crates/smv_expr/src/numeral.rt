@@ -10,7 +10,8 @@ const GREATEST_NUMBER: u64 = 2_147_483_647;
 /// The number for which decimal digits stand; none where it is over the limit.
 pub fn numeral_value(digits: &[u8]) -> Option<u32>
     requires { AreDigits digits.now }
-    ensures { result ≡ if nat_le (spec.numeral_value digits.now) spec.greatest_number then Some (spec.numeral_value digits.now) else None }
+    ensures { result ≡ if nat_le (spec.numeral_value digits.now) spec.greatest_number then Some
+        (spec.numeral_value digits.now) else None }
 {
     let mut value = 0;
     for digit in digits {

@@ -1,6 +1,6 @@
 //! Operands that hold no other expression: numbers, intervals and paths.
 //!
-//! Where a tree ends with a token, `fits` tells whether it is low enough to stand there.
+//! Where a tree ends with a token, `fits` says whether it is low enough to stand there.
 
 ghost use Rattle.std.specs.Prelude.{◌≡◌, ◌∷◌, true, false, IfOk};
 ghost use Rattle.smv_expr.specs.Reading.{Gives};
@@ -87,14 +87,14 @@ pub fn single(alloc: Global, tokens: &mut Cursor<'_>, fits: bool) -> Result<Tree
 pub fn number(alloc: Global, tokens: &mut Cursor<'_>, fits: bool) -> Result<Tree, ReadError>
     ensures { Gives (spec.read_number false fits tokens.old) result tokens.new }
 {
-    if tokens.sees_behind(Kind::DotDot) {
+    if tokens.sees_second(Kind::DotDot) {
         interval(alloc, tokens, fits)
     } else {
         single(alloc, tokens, fits)
     }
 }
 
-/// The interval behind a `-` that belongs to its lower end.
+/// The interval after a `-` that belongs to its lower end.
 #[tactic(auto, unfolding(crate::specs::ExprReaders::read_negative_interval))]
 pub fn negative_interval(
     alloc: Global,
@@ -108,7 +108,7 @@ pub fn negative_interval(
     Ok(Tree::interval(alloc, -i64::from(low), high)?)
 }
 
-/// A `.`, and the name behind it.
+/// A `.`, and the name after it.
 #[tactic(auto, unfolding(crate::specs::ExprReaders::read_dotted))]
 fn dotted(alloc: Global, tokens: &mut Cursor<'_>) -> Result<Text, ReadError>
     ensures { Gives (spec.read_dotted tokens.old) result tokens.new }
@@ -122,7 +122,7 @@ fn dotted_names(alloc: Global, tokens: &mut Cursor<'_>) -> Result<List<Text>, Re
     ensures { Gives (spec.read_dotted_names tokens.old) result tokens.new }
 {
     let mut found = List::new(alloc);
-    'turns: while tokens.sees(Kind::Dot) {
+    'rounds: while tokens.sees(Kind::Dot) {
         let one = dotted(alloc, tokens)?;
         found.push(one)?;
     }
@@ -151,7 +151,7 @@ fn first_name(alloc: Global, tokens: &mut Cursor<'_>, fits: bool) -> Result<(Tex
     tokens.name(alloc)
 }
 
-/// Names joined by dots. The place is that of the first.
+/// Names joined by dots. The span is that of the first.
 #[tactic(auto, unfolding(crate::specs::ExprReaders::read_path))]
 pub fn path(alloc: Global, tokens: &mut Cursor<'_>, fits: bool) -> Result<Tree, ReadError>
     ensures { Gives (spec.read_path fits tokens.old) result tokens.new }

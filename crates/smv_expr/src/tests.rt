@@ -32,7 +32,7 @@ fn cursor(rt: HostRuntime) -> Result<(), Fail> {
     };
     assert_eq!(rt; word.at, 10);
     assert!(rt; tokens.is_at_end());
-    assert!(rt; tokens.place().is_none());
+    assert!(rt; tokens.span().is_none());
     Ok(())
 }
 
@@ -182,7 +182,7 @@ fn too_nested_at(alloc: Global, text: &str) -> Option<u32> {
 }
 
 #[test]
-fn misfits_of_expressions(rt: HostRuntime) -> Result<(), Fail> {
+fn syntax_faults_of_expressions(rt: HostRuntime) -> Result<(), Fail> {
     let texts = [
         ("", 0),
         ("a b", 2),
@@ -206,12 +206,12 @@ fn misfits_of_expressions(rt: HostRuntime) -> Result<(), Fail> {
 }
 
 /// The first text so many times, then the second once.
-fn repeated(alloc: Global, before: &str, times: usize, behind: &str) -> Result<String, Fail> {
+fn repeated(alloc: Global, before: &str, times: usize, after: &str) -> Result<String, Fail> {
     let mut text = String::new(alloc);
     for _ in 0..times {
         text.push_str(before)?;
     }
-    text.push_str(behind)?;
+    text.push_str(after)?;
     Ok(text)
 }
 
@@ -223,14 +223,14 @@ fn nesting(rt: HostRuntime) -> Result<(), Fail> {
         ("a+", 1000, "a", 2000),
         ("a->", 1000, "a", 3000),
     ];
-    for (before, times, behind, offset) in texts {
-        let text = repeated(rt.alloc(), before, times, behind)?;
+    for (before, times, after, offset) in texts {
+        let text = repeated(rt.alloc(), before, times, after)?;
         assert_eq!(rt;
             too_nested_at(rt.alloc(), text.as_str()),
             Some(offset),
             "{before}"
         );
-        let less = repeated(rt.alloc(), before, 999, behind)?;
+        let less = repeated(rt.alloc(), before, 999, after)?;
         assert_eq!(rt; too_nested_at(rt.alloc(), less.as_str()), None, "{before}");
     }
     Ok(())

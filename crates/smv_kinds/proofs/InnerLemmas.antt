@@ -1,21 +1,22 @@
--- An expression that keeps the rules, with its choices where they may stand, is made of expressions that do.
+-- The subexpressions of an expression that keeps the rules, with its choices where they may be,
+-- keep the rules too.
 use Rattle.std.proofs.Common.{◌≡◌, ℕ, zero, suc, inl, inr, true, ◌&&◌, List, [], ◌∷◌, map, subst}
 use Rattle.std.specs.List.{flat_map, list_all}
 use Rattle.smv_ast.specs.declared.syntax.Expr.{Expr, Expr-F, out-Expr, fold_out-Expr, map-Expr}
 use Rattle.smv_ast.specs.declared.syntax.Choice.{Choice, Choice-F, out-Choice, fold_out-Choice, map-Choice}
 use Rattle.smv_ast.specs.declared.syntax.Branch.{Branch, out-Branch, fold_out-Branch}
 use Rattle.smv_kinds.specs.declared.facts.Facts.{Facts}
-use Rattle.smv_kinds.specs.Facts.{Offer, Guarded, Sorting, offered, choice_layer, expr_layer, branch_layer, facts_of, offer_of, guarded_of}
+use Rattle.smv_kinds.specs.Facts.{ChoiceFacts, BranchFacts, SortEnvironment, pick_facts, choice_layer, expr_layer, branch_layer, facts_of, choice_facts_of, branch_facts_of}
 use Rattle.smv_kinds.specs.Parts.{choice_layer_parts, choice_parts, branch_parts, expr_layer_parts, direct_parts, parts_below}
 use Rattle.smv_kinds.specs.Soundness.{IsKept, Shape, BranchShape, choice_shape_layer, expr_shape_layer, branch_shape_layer, shape_of, choice_shape, branch_shape}
 use Rattle.smv_kinds.proofs.IntervalLemmas.{both_true}
 use Rattle.smv_kinds.proofs.PartLemmas.{Each}
-use Rattle.smv_kinds.proofs.KeptLemmas.{AllKept, first_kept, parts_kept, case_kept, negation_kept, denial_kept, next_kept, binary_kept, within_kept}
+use Rattle.smv_kinds.proofs.KeptLemmas.{AllKept, first_kept, parts_kept, case_kept, negation_kept, not_kept, next_kept, binary_kept, within_kept}
 use Rattle.smv_kinds.proofs.SoundLemmas.{sound}
 use Rattle.smv_kinds.proofs.MemberLemmas.{In, from_flat}
 
-module _ (on : Sorting) where
-  -- it keeps the rules, and its choices stand where they may
+module _ (on : SortEnvironment) where
+  -- an expression that keeps the rules, with its choices where they may be
   pub record Kept (e : Expr) : Type 0 where
     pub kept : IsKept (facts_of on e)
     pub free : (shape_of e).free ≡ true
@@ -39,63 +40,63 @@ module _ (on : Sorting) where
       let b = both_true (shape_of e).plain (list_all (λ s. s.plain) (map shape_of parts)) s in
       (plain_kept e a.0 b.0, plain_parts parts a.1 b.1)
 
-  abbrev choice_facts : Choice-F Choice Expr Branch → Choice-F Offer Facts Guarded
-  choice_facts = map-Choice Choice Expr Branch Offer Facts Guarded (offer_of on) (facts_of on) (guarded_of on)
+  abbrev choice_facts : Choice-F Choice Expr Branch → Choice-F ChoiceFacts Facts BranchFacts
+  choice_facts = map-Choice Choice Expr Branch ChoiceFacts Facts BranchFacts (choice_facts_of on) (facts_of on) (branch_facts_of on)
 
   abbrev choice_shapes : Choice-F Choice Expr Branch → Choice-F Shape Shape BranchShape
   choice_shapes = map-Choice Choice Expr Branch Shape Shape BranchShape choice_shape shape_of branch_shape
 
-  free_layer : (d : Choice-F Choice Expr Branch) → IsKept (offered (choice_layer (choice_facts d))) → (choice_shape_layer (choice_shapes d)).free ≡ true → Each Kept (choice_layer_parts d)
+  free_layer : (d : Choice-F Choice Expr Branch) → IsKept (pick_facts (choice_layer (choice_facts d))) → (choice_shape_layer (choice_shapes d)).free ≡ true → Each Kept (choice_layer_parts d)
   free_layer (Choice-F.Each parts) k s = free_parts parts (parts_kept (map (facts_of on) parts) k) s
   free_layer (Choice-F.Between low high) k s = tt
 
-  plain_layer : (d : Choice-F Choice Expr Branch) → IsKept (offered (choice_layer (choice_facts d))) → (choice_shape_layer (choice_shapes d)).plain ≡ true → Each Kept (choice_layer_parts d)
+  plain_layer : (d : Choice-F Choice Expr Branch) → IsKept (pick_facts (choice_layer (choice_facts d))) → (choice_shape_layer (choice_shapes d)).plain ≡ true → Each Kept (choice_layer_parts d)
   plain_layer (Choice-F.Each parts) k s = plain_parts parts (parts_kept (map (facts_of on) parts) k) s
   plain_layer (Choice-F.Between low high) k s = tt
 
-  opened : (c : Choice) → IsKept (offered (offer_of on c)) → IsKept (offered (choice_layer (choice_facts (out-Choice c))))
-  opened c k = subst (λ (o : Offer). IsKept (offered o)) (fold_out-Choice Offer Facts Guarded choice_layer (expr_layer on) branch_layer c) k
+  opened : (c : Choice) → IsKept (pick_facts (choice_facts_of on c)) → IsKept (pick_facts (choice_layer (choice_facts (out-Choice c))))
+  opened c k = subst (λ (o : ChoiceFacts). IsKept (pick_facts o)) (fold_out-Choice ChoiceFacts Facts BranchFacts choice_layer (expr_layer on) branch_layer c) k
 
   shape_opens : (c : Choice) → choice_shape c ≡ choice_shape_layer (choice_shapes (out-Choice c))
   shape_opens c = fold_out-Choice Shape Shape BranchShape choice_shape_layer expr_shape_layer branch_shape_layer c
 
-  free_choice : (c : Choice) → IsKept (offered (offer_of on c)) → (choice_shape c).free ≡ true → Each Kept (choice_parts c)
+  free_choice : (c : Choice) → IsKept (pick_facts (choice_facts_of on c)) → (choice_shape c).free ≡ true → Each Kept (choice_parts c)
   free_choice c k s = free_layer (out-Choice c) (opened c k) (subst (λ (x : Shape). x.free ≡ true) (shape_opens c) s)
 
-  plain_choice : (c : Choice) → IsKept (offered (offer_of on c)) → (choice_shape c).plain ≡ true → Each Kept (choice_parts c)
+  plain_choice : (c : Choice) → IsKept (pick_facts (choice_facts_of on c)) → (choice_shape c).plain ≡ true → Each Kept (choice_parts c)
   plain_choice c k s = plain_layer (out-Choice c) (opened c k) (subst (λ (x : Shape). x.plain ≡ true) (shape_opens c) s)
 
   -- ---- branches
 
-  guarded_is : (b : Branch) → guarded_of on b ≡ record { cond = facts_of on (out-Branch b).cond; value = facts_of on (out-Branch b).value }
-  guarded_is b = fold_out-Branch Offer Facts Guarded choice_layer (expr_layer on) branch_layer b
+  branch_facts_are : (b : Branch) → branch_facts_of on b ≡ record { cond = facts_of on (out-Branch b).cond; value = facts_of on (out-Branch b).value }
+  branch_facts_are b = fold_out-Branch ChoiceFacts Facts BranchFacts choice_layer (expr_layer on) branch_layer b
 
   shapes_are : (b : Branch) → branch_shape b ≡ record { cond = shape_of (out-Branch b).cond; value = shape_of (out-Branch b).value }
   shapes_are b = fold_out-Branch Shape Shape BranchShape choice_shape_layer expr_shape_layer branch_shape_layer b
 
   abbrev conds : List Branch → List Facts
-  conds branches = map (λ g. g.cond) (map (guarded_of on) branches)
+  conds branches = map (λ g. g.cond) (map (branch_facts_of on) branches)
 
   abbrev values : List Branch → List Facts
-  values branches = map (λ g. g.value) (map (guarded_of on) branches)
+  values branches = map (λ g. g.value) (map (branch_facts_of on) branches)
 
   branches_kept : (branches : List Branch) → AllKept (conds branches) → AllKept (values branches) → list_all (λ s. s.cond.plain && s.value.free) (map branch_shape branches) ≡ true → Each Kept (flat_map branch_parts branches)
   branches_kept [] c v s = tt
   branches_kept (b ∷ branches) c v s =
-      let x = first_kept (guarded_of on b).cond (conds branches) c in
-      let y = first_kept (guarded_of on b).value (values branches) v in
+      let x = first_kept (branch_facts_of on b).cond (conds branches) c in
+      let y = first_kept (branch_facts_of on b).value (values branches) v in
       let z = both_true ((branch_shape b).cond.plain && (branch_shape b).value.free) (list_all (λ s. s.cond.plain && s.value.free) (map branch_shape branches)) s in
       let w = both_true (branch_shape b).cond.plain (branch_shape b).value.free z.0 in
-      let cond = subst (λ (g : Guarded). IsKept g.cond) (guarded_is b) x.0 in
-      let value = subst (λ (g : Guarded). IsKept g.value) (guarded_is b) y.0 in
+      let cond = subst (λ (g : BranchFacts). IsKept g.cond) (branch_facts_are b) x.0 in
+      let value = subst (λ (g : BranchFacts). IsKept g.value) (branch_facts_are b) y.0 in
       let plain = subst (λ (s : BranchShape). s.cond.plain ≡ true) (shapes_are b) w.0 in
       let free = subst (λ (s : BranchShape). s.value.free ≡ true) (shapes_are b) w.1 in
       (plain_kept (out-Branch b).cond cond plain, (record { kept = value; free = free }, branches_kept branches x.1 y.1 z.1))
 
   -- ---- expressions
 
-  abbrev expr_facts : Expr-F Choice Expr Branch → Expr-F Offer Facts Guarded
-  expr_facts = map-Expr Choice Expr Branch Offer Facts Guarded (offer_of on) (facts_of on) (guarded_of on)
+  abbrev expr_facts : Expr-F Choice Expr Branch → Expr-F ChoiceFacts Facts BranchFacts
+  expr_facts = map-Expr Choice Expr Branch ChoiceFacts Facts BranchFacts (choice_facts_of on) (facts_of on) (branch_facts_of on)
 
   abbrev expr_shapes : Expr-F Choice Expr Branch → Expr-F Shape Shape BranchShape
   expr_shapes = map-Expr Choice Expr Branch Shape Shape BranchShape choice_shape shape_of branch_shape
@@ -106,14 +107,14 @@ module _ (on : Sorting) where
   layer_kept (Expr-F.Number n) k s = tt
   layer_kept (Expr-F.Name path) k s = tt
   layer_kept (Expr-F.Neg a) k s = (plain_kept a (negation_kept (facts_of on a) k).0 s, tt)
-  layer_kept (Expr-F.Not a) k s = (plain_kept a (denial_kept (facts_of on a) k).0 s, tt)
+  layer_kept (Expr-F.Not a) k s = (plain_kept a (not_kept (facts_of on a) k).0 s, tt)
   layer_kept (Expr-F.Binary op a b) k s =
       let p = both_true (shape_of a).plain (shape_of b).plain s in
       let r = binary_kept op (facts_of on a) (facts_of on b) k in
       (plain_kept a r.left p.0, (plain_kept b r.right p.1, tt))
   layer_kept (Expr-F.Within a c) k s =
       let p = both_true (shape_of a).plain (choice_shape c).plain s in
-      let r = within_kept (facts_of on a) (offer_of on c) k in
+      let r = within_kept (facts_of on a) (choice_facts_of on c) k in
       (plain_kept a r.0 p.0, plain_choice c r.1 p.1)
   layer_kept (Expr-F.Cases branches) k s =
       let r = case_kept (conds branches) (values branches) k in
@@ -123,7 +124,7 @@ module _ (on : Sorting) where
 
   direct_kept : (e : Expr) → Kept e → Each Kept (direct_parts e)
   direct_kept e h = layer_kept (out-Expr e)
-      (subst IsKept (fold_out-Expr Offer Facts Guarded choice_layer (expr_layer on) branch_layer e) h.kept)
+      (subst IsKept (fold_out-Expr ChoiceFacts Facts BranchFacts choice_layer (expr_layer on) branch_layer e) h.kept)
       (subst (λ (x : Shape). x.free ≡ true) (fold_out-Expr Shape Shape BranchShape choice_shape_layer expr_shape_layer branch_shape_layer e) h.free)
 
   each_in : (parts : List Expr) (e : Expr) → Each Kept parts → In e parts → Kept e
@@ -131,7 +132,7 @@ module _ (on : Sorting) where
   each_in (p ∷ parts) e h (inl same) = subst Kept same h.0
   each_in (p ∷ parts) e h (inr i) = each_in parts e h.1 i
 
-  -- each expression that stands in one that keeps the rules does too
+  -- each subexpression of an expression that keeps the rules does too
   pub part_kept : (layers : ℕ) (e part : Expr) → Kept e → In part (parts_below layers e) → Kept part
   part_kept zero e part h (inl same) = subst Kept same h
   part_kept zero e part h (inr i) = absurd i

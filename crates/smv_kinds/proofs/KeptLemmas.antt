@@ -1,9 +1,9 @@
--- What is made of parts and keeps the rules is made of parts that keep them.
+-- The parts of an expression that keeps the rules keep them.
 use Rattle.std.proofs.Common.{◌≡◌, true, false, ◌&&◌, ◌||◌, List, [], ◌∷◌, Some, refl}
 use Rattle.smv_ast.specs.declared.syntax.Op.{Op}
 use Rattle.smv_kinds.specs.declared.facts.Facts.{Facts}
-use Rattle.smv_kinds.specs.Sorts.{is_boolean, is_number, has_kind, is_small, binary_sort, truth_sort, beside, negated_sort, span_sort}
-use Rattle.smv_kinds.specs.Facts.{negation_facts, denial_facts, next_facts, binary_facts, binary_rule, mod_rule, parts_sort, parts_facts, case_facts, within_offer, all_kinds, all_small, all_mods, all_fit, all_suit, all_agree, Offer, Parts, Span, offered}
+use Rattle.smv_kinds.specs.Sorts.{is_boolean, is_number, has_kind, is_small, binary_sort, truth_sort, if_known, negated_sort, interval_sort}
+use Rattle.smv_kinds.specs.Facts.{negation_facts, not_facts, next_facts, binary_facts, binary_rule, mod_rule, parts_sort, parts_facts, case_facts, within_choice, all_kinds, all_small, all_mods, all_fit, all_suit, all_agree, ChoiceFacts, Parts, Between, pick_facts}
 use Rattle.smv_kinds.specs.Soundness.{IsKept}
 use Rattle.smv_kinds.proofs.IntervalLemmas.{both_true}
 use Rattle.smv_kinds.proofs.PartLemmas.{node_kept}
@@ -65,8 +65,8 @@ negation_kept a k =
     let e = both_true a.kinds (is_number a.sort) d.kinds_kept in
     (record { kinds = e.0; small = d.small_kept; mods = d.mods_kept }, e.1, d.narrow)
 
-pub denial_kept : (a : Facts) → IsKept (denial_facts a) → IsKept a × (a.fits ≡ true)
-denial_kept a k =
+pub not_kept : (a : Facts) → IsKept (not_facts a) → IsKept a × (a.fits ≡ true)
+not_kept a k =
     let d = node_kept (truth_sort a.sort) true (a.kinds && a.fits) a.small a.mods k in
     let e = both_true a.kinds a.fits d.kinds_kept in
     (record { kinds = e.0; small = d.small_kept; mods = d.mods_kept }, e.1)
@@ -76,7 +76,7 @@ next_kept a k =
     let d = node_kept a.sort (is_boolean a.sort) a.kinds a.small a.mods k in
     record { kinds = d.kinds_kept; small = d.small_kept; mods = d.mods_kept }
 
--- what an operator asks of its operands
+-- the requirements of an operator on its operands
 pub record BinaryKept (p : Op) (a b : Facts) : Type 0 where
   pub left : IsKept a
   pub right : IsKept b
@@ -101,18 +101,18 @@ binary_kept p a b k =
       narrow = d.narrow;
     }
 
--- what is looked for in a choice, and the choice
-pub within_kept : (a : Facts) (c : Offer) → IsKept (within_offer a c) → IsKept a × IsKept (offered c)
+-- the two sides of `in`
+pub within_kept : (a : Facts) (c : ChoiceFacts) → IsKept (within_choice a c) → IsKept a × IsKept (pick_facts c)
 within_kept a (Parts parts) k =
     let set = parts_facts parts in
-    let d = node_kept (beside a.sort (truth_sort set.sort)) true (a.kinds && set.kinds && all_agree a parts) (a.small && set.small) (a.mods && set.mods) k in
+    let d = node_kept (if_known a.sort (truth_sort set.sort)) true (a.kinds && set.kinds && all_agree a parts) (a.small && set.small) (a.mods && set.mods) k in
     let e = both_true (a.kinds && set.kinds) (all_agree a parts) d.kinds_kept in
     let f = both_true a.kinds set.kinds e.0 in
     let g = both_true a.small set.small d.small_kept in
     let i = both_true a.mods set.mods d.mods_kept in
     (record { kinds = f.0; small = g.0; mods = i.0 }, record { kinds = f.1; small = g.1; mods = i.1 })
-within_kept a (Span low high) k =
-    let d = node_kept (truth_sort a.sort) true (a.kinds && is_number a.sort) (a.small && is_small (Some (span_sort low high))) a.mods k in
+within_kept a (Between low high) k =
+    let d = node_kept (truth_sort a.sort) true (a.kinds && is_number a.sort) (a.small && is_small (Some (interval_sort low high))) a.mods k in
     let e = both_true a.kinds (is_number a.sort) d.kinds_kept in
-    let g = both_true a.small (is_small (Some (span_sort low high))) d.small_kept in
+    let g = both_true a.small (is_small (Some (interval_sort low high))) d.small_kept in
     (record { kinds = e.0; small = g.0; mods = d.mods_kept }, record { kinds = refl; small = g.1; mods = refl })

@@ -1,6 +1,6 @@
 pub mod IntervalLemmas
 pub mod TableLemmas
-pub mod PlaceLemmas
+pub mod InstanceLemmas
 pub mod RuleLemmas
 pub mod ProductLemmas
 pub mod ValueLemmas
@@ -14,3 +14,4 @@ pub mod TypeLemmas
 pub mod ItemLemmas
 pub mod InnerLemmas
 pub mod WholeLemmas
+mod Examples

@@ -1,4 +1,5 @@
--- Members of lists, and of the list of instances: what an instance declares is one, and so is its outer one.
+-- Members of lists and of the list of instances: a declared instance is one, and so is its outer
+-- instance.
 use Rattle.std.proofs.Common.{◌≡◌, ℕ, zero, suc, ◌+◌, ◌<◌, ◌⊎◌, inl, inr, Bool, true, false, cond, List, [], ◌∷◌, ◌++◌, length, map, Some, refl, sym, ap, ◌∙◌, subst, arith}
 use Rattle.std.specs.Prelude.{slice_get, filter, find, nat_lt}
 use Rattle.std.specs.List.{flat_map, Contains, All}
@@ -6,7 +7,7 @@ use Rattle.std.specs.Str.{bytes_eq}
 use Rattle.std.proofs.lemmas.Slice.Eq.{bytes_eq-Decides}
 use Rattle.smv_ast.specs.declared.program.Program.{Program}
 use Rattle.smv_meaning.specs.Value.{Name, and_then}
-use Rattle.smv_meaning.specs.Instances.{Meaning, Variable, Inner, Defined, Formal, Entry, Place, Main, Within, entries, module_at, inner_of, inner_places, from_place, goes_deeper, depth_of, instances}
+use Rattle.smv_meaning.specs.Instances.{Entity, Variable, Inner, Defined, Formal, Entry, Instance, Main, Within, entries, module_at, inner_of, inner_instances, subtree, goes_deeper, depth_of, instances}
 
 -- a member of a list
 abbrev pub In : {A : Type 0} → A → List A → Type 0
@@ -73,78 +74,78 @@ in_get (y ∷ ys) (suc k) x e = inr (in_get ys k x e)
 -- ---- entries
 
 -- the entry of a name
-pub record Declares (es : List Entry) (name : Name) (m : Meaning) : Type 0 where
+pub record Declares (es : List Entry) (name : Name) (m : Entity) : Type 0 where
   pub entry : Entry
   pub among : In entry es
   pub named : entry.name ≡ name
-  pub means : entry.meaning ≡ m
+  pub means : entry.entity ≡ m
 
-pub declares : (es : List Entry) (name : Name) (m : Meaning) → and_then (find (λ e. bytes_eq e.name name) es) (λ e. Some e.meaning) ≡ Some m → Declares es name m
+pub declares : (es : List Entry) (name : Name) (m : Entity) → and_then (find (λ e. bytes_eq e.name name) es) (λ e. Some e.entity) ≡ Some m → Declares es name m
 declares [] name m h = cc
 declares (e ∷ es) name m h = at (declares es name m) (bytes_eq e.name name) refl h
   where
-    at : (and_then (find (λ e. bytes_eq e.name name) es) (λ e. Some e.meaning) ≡ Some m → Declares es name m) → (b : Bool) → bytes_eq e.name name ≡ b → and_then (cond b (Some e) (find (λ e. bytes_eq e.name name) es)) (λ e. Some e.meaning) ≡ Some m → Declares (e ∷ es) name m
+    at : (and_then (find (λ e. bytes_eq e.name name) es) (λ e. Some e.entity) ≡ Some m → Declares es name m) → (b : Bool) → bytes_eq e.name name ≡ b → and_then (cond b (Some e) (find (λ e. bytes_eq e.name name) es)) (λ e. Some e.entity) ≡ Some m → Declares (e ∷ es) name m
     at more true b h = record { entry = e; among = inl refl; named = (bytes_eq-Decides e.name name).0 b; means = cc }
     at more false b h = let d = more h in record { entry = d.entry; among = inr d.among; named = d.named; means = d.means }
 
 -- ---- instances
 
 -- an instance that another declares
-pub record IsInner (program : Program) (place c : Place) : Type 0 where
+pub record IsInner (program : Program) (instance c : Instance) : Type 0 where
   pub name : Name
   pub called : Name
-  pub is : c ≡ Within place name called
-  pub deeper : goes_deeper program place ≡ true
+  pub is : c ≡ Within instance name called
+  pub deeper : goes_deeper program instance ≡ true
 
-inner_one : (program : Program) (place c : Place) (name : Name) (m : Meaning) → In c (inner_of program place name m) → IsInner program place c
-inner_one program place c name (Variable t) i = absurd i
-inner_one program place c name (Inner called actuals) i = at (goes_deeper program place) refl i
+inner_one : (program : Program) (instance c : Instance) (name : Name) (m : Entity) → In c (inner_of program instance name m) → IsInner program instance c
+inner_one program instance c name (Variable t) i = absurd i
+inner_one program instance c name (Inner called actuals) i = at (goes_deeper program instance) refl i
   where
-    at : (b : Bool) → goes_deeper program place ≡ b → In c (cond b (Within place name called ∷ []) []) → IsInner program place c
+    at : (b : Bool) → goes_deeper program instance ≡ b → In c (cond b (Within instance name called ∷ []) []) → IsInner program instance c
     at true d (inl e) = record { name = name; called = called; is = sym e; deeper = d }
     at true d (inr i) = absurd i
     at false d i = absurd i
-inner_one program place c name (Defined right) i = absurd i
-inner_one program place c name (Formal k) i = absurd i
+inner_one program instance c name (Defined right) i = absurd i
+inner_one program instance c name (Formal k) i = absurd i
 
-pub inner_is : (program : Program) (place c : Place) → In c (inner_places program place) → IsInner program place c
-inner_is program place c i =
-    let r = from_flat (λ e. inner_of program place e.name e.meaning) (entries (module_at program place)) c i in inner_one program place c r.0.name r.0.meaning r.2
+pub inner_is : (program : Program) (instance c : Instance) → In c (inner_instances program instance) → IsInner program instance c
+inner_is program instance c i =
+    let r = from_flat (λ e. inner_of program instance e.name e.entity) (entries (module_at program instance)) c i in inner_one program instance c r.0.name r.0.entity r.2
 
-head_in : (d : ℕ) (program : Program) (place : Place) → In place (from_place d program place)
-head_in zero program place = inl refl
-head_in (suc d) program place = inl refl
+head_in : (d : ℕ) (program : Program) (instance : Instance) → In instance (subtree d program instance)
+head_in zero program instance = inl refl
+head_in (suc d) program instance = inl refl
 
-below_in : (d : ℕ) (program : Program) (root p q : Place) → In p (from_place d program root) → depth_of p < d + depth_of root → In q (inner_places program p) → In q (from_place d program root)
-below_in zero program root p q (inl e) h i = absurd (omega (arith, ap depth_of e))
-below_in zero program root p q (inr j) h i = absurd j
-below_in (suc d) program root p q (inl e) h i =
-    inr (in_flat (from_place d program) (inner_places program root) q q (subst (λ (x : Place). In q (inner_places program x)) (sym e) i) (head_in d program q))
-below_in (suc d) program root p q (inr j) h i =
-    let r = from_flat (from_place d program) (inner_places program root) p j in
-    let c = inner_is program root r.0 r.1 in
-    let deep : depth_of r.0 ≡ suc (depth_of root) = ap depth_of c.is in
-    inr (in_flat (from_place d program) (inner_places program root) r.0 q r.1 (below_in d program r.0 p q r.2 (omega arith) i))
+below_in : (d : ℕ) (program : Program) (top p q : Instance) → In p (subtree d program top) → depth_of p < d + depth_of top → In q (inner_instances program p) → In q (subtree d program top)
+below_in zero program top p q (inl e) h i = absurd (omega (arith, ap depth_of e))
+below_in zero program top p q (inr j) h i = absurd j
+below_in (suc d) program top p q (inl e) h i =
+    inr (in_flat (subtree d program) (inner_instances program top) q q (subst (λ (x : Instance). In q (inner_instances program x)) (sym e) i) (head_in d program q))
+below_in (suc d) program top p q (inr j) h i =
+    let r = from_flat (subtree d program) (inner_instances program top) p j in
+    let c = inner_is program top r.0 r.1 in
+    let deep : depth_of r.0 ≡ suc (depth_of top) = ap depth_of c.is in
+    inr (in_flat (subtree d program) (inner_instances program top) r.0 q r.1 (below_in d program r.0 p q r.2 (omega arith) i))
 
--- what an instance declares is an instance
-pub inner_in : (program : Program) (p q : Place) → In p (instances program) → In q (inner_places program p) → In q (instances program)
+-- an instance that an instance declares is an instance of the program
+pub inner_in : (program : Program) (p q : Instance) → In p (instances program) → In q (inner_instances program p) → In q (instances program)
 inner_in program p q i j =
     let d : nat_lt (depth_of p) (length program.modules) ≡ true = (inner_is program p q j).deeper in
     let l : depth_of p < length program.modules + 0 = grind arith in
     below_in (length program.modules) program Main p q i l j
 
-outer_in_from : (d : ℕ) (program : Program) (root outer : Place) (name called : Name) → In (Within outer name called) (from_place d program root) → (Within outer name called ≡ root) ⊎ In outer (from_place d program root)
-outer_in_from zero program root outer name called (inl e) = inl (sym e)
-outer_in_from zero program root outer name called (inr j) = absurd j
-outer_in_from (suc d) program root outer name called (inl e) = inl (sym e)
-outer_in_from (suc d) program root outer name called (inr j) =
-    let r = from_flat (from_place d program) (inner_places program root) (Within outer name called) j in
-    let c = inner_is program root r.0 r.1 in
+outer_in_from : (d : ℕ) (program : Program) (top outer : Instance) (name called : Name) → In (Within outer name called) (subtree d program top) → (Within outer name called ≡ top) ⊎ In outer (subtree d program top)
+outer_in_from zero program top outer name called (inl e) = inl (sym e)
+outer_in_from zero program top outer name called (inr j) = absurd j
+outer_in_from (suc d) program top outer name called (inl e) = inl (sym e)
+outer_in_from (suc d) program top outer name called (inr j) =
+    let r = from_flat (subtree d program) (inner_instances program top) (Within outer name called) j in
+    let c = inner_is program top r.0 r.1 in
     elim (outer_in_from d program r.0 outer name called r.2) [
-      | inl e ↦ let f : Within outer name called ≡ Within root c.name c.called = e ∙ c.is in let g : root ≡ outer = (cc) in inr (inl g)
-      | inr k ↦ inr (inr (in_flat (from_place d program) (inner_places program root) r.0 outer r.1 k))
+      | inl e ↦ let f : Within outer name called ≡ Within top c.name c.called = e ∙ c.is in let g : top ≡ outer = (cc) in inr (inl g)
+      | inr k ↦ inr (inr (in_flat (subtree d program) (inner_instances program top) r.0 outer r.1 k))
     ]
 
--- an outer instance is one
-pub outer_in : (program : Program) (outer : Place) (name called : Name) → In (Within outer name called) (instances program) → In outer (instances program)
+-- an outer instance is an instance of the program
+pub outer_in : (program : Program) (outer : Instance) (name called : Name) → In (Within outer name called) (instances program) → In outer (instances program)
 outer_in program outer name called i = elim (outer_in_from (length program.modules) program Main outer name called i) [ inl e ↦ cc | inr j ↦ j ]

@@ -1,4 +1,5 @@
--- An expression that keeps the rules has a value of what is known of it, where its names have.
+-- An expression that keeps the rules has a value that agrees with its facts, where its names have
+-- values of their sorts.
 use Rattle.std.proofs.Common.{◌≡◌, ℕ, zero, suc, Bool, true, false, ◌&&◌, ◌||◌, inl, inr, List, [], ◌∷◌, map, Option, Some, None, refl, sym, ap, ◌∙◌, subst, arith}
 use Rattle.std.specs.Prelude.{ℤ, pos, nat_le, int_le}
 use Rattle.std.specs.List.{fold, list_all}
@@ -9,21 +10,21 @@ use Rattle.smv_ast.specs.declared.syntax.Choice.{Choice, Choice-F, roll-Choice, 
 use Rattle.smv_ast.specs.declared.syntax.Branch.{Branch, Branch-F, roll-Branch, fold-roll-Branch}
 use Rattle.smv_meaning.specs.declared.value.Value.{Value}
 use Rattle.smv_meaning.specs.declared.value.Value.TheVariants.{Boolean as Truth, Number as Whole, Symbol as Word}
-use Rattle.smv_meaning.specs.Value.{Name, and_then, of_both, truth, same, operate, negated, denied, in_range}
-use Rattle.smv_meaning.specs.Senses.{Reading, Valued, Allowed, Sense, BranchSense, single, parts_allow, taken, taken_in, holds_in, choice_sense, expr_sense, branch_sense, sense_of, choice_allows, branch_sense_of}
+use Rattle.smv_meaning.specs.Value.{Name, and_then, of_both, truth, same, operate, negated, logical_not, in_range}
+use Rattle.smv_meaning.specs.Denotations.{Environment, Valued, Allowed, Denotation, BranchDenotation, single, parts_allow, taken, taken_in, holds_in, choice_denotation, expr_denotation, branch_denotation, denotation_of, choice_allows, branch_denotation_of}
 use Rattle.smv_kinds.specs.declared.sorts.Sort.{Sort}
 use Rattle.smv_kinds.specs.declared.sorts.Sort.TheVariants.{Nothing}
 use Rattle.smv_kinds.specs.declared.facts.Facts.{Facts}
-use Rattle.smv_kinds.specs.Sorts.{is_boolean, has_kind, is_small, join, join_both, binary_sort, truth_sort, beside, span_sort}
-use Rattle.smv_kinds.specs.Facts.{truth_facts, number_facts, name_facts, negation_facts, denial_facts, next_facts, binary_facts, parts_sort, parts_facts, span_facts, case_facts, within_offer, all_kinds, all_fit, all_suit, Offer, Parts, Span, Guarded, Sorting, offered, choice_layer, expr_layer, branch_layer, facts_of, offer_of, guarded_of}
+use Rattle.smv_kinds.specs.Sorts.{is_boolean, has_kind, is_small, join, join_both, binary_sort, truth_sort, if_known, interval_sort}
+use Rattle.smv_kinds.specs.Facts.{truth_facts, number_facts, name_facts, negation_facts, not_facts, next_facts, binary_facts, parts_sort, parts_facts, interval_facts, case_facts, within_choice, all_kinds, all_fit, all_suit, ChoiceFacts, Parts, Between, BranchFacts, SortEnvironment, pick_facts, choice_layer, expr_layer, branch_layer, facts_of, choice_facts_of, branch_facts_of}
 use Rattle.smv_kinds.specs.Soundness.{IsTruth, FitsKnown, IsOf, Meets, IsKept, Allows, Shape, BranchShape, single_shape, choice_shape_layer, expr_shape_layer, branch_shape_layer, shape_of, choice_shape, branch_shape}
 use Rattle.smv_kinds.proofs.IntervalLemmas.{both_true}
-use Rattle.smv_kinds.proofs.ValueLemmas.{count_is, operator_makes, negation_makes, denial_makes, same_value}
+use Rattle.smv_kinds.proofs.ValueLemmas.{count_is, operator_transfer, negation_transfer, not_transfer, same_value}
 use Rattle.smv_kinds.proofs.TakenLemmas.{map_twice, takes_one, HasOne, some_mapped, all_twice}
 use Rattle.smv_kinds.proofs.PartLemmas.{Each, each_all, each_both, node_kept, as_boolean, either_true, part_of}
-use Rattle.smv_kinds.proofs.KeptLemmas.{AllKept, first_kept, parts_kept, CaseKept, case_kept, negation_kept, denial_kept, next_kept, binary_kept, within_kept}
+use Rattle.smv_kinds.proofs.KeptLemmas.{AllKept, first_kept, parts_kept, CaseKept, case_kept, negation_kept, not_kept, next_kept, binary_kept, within_kept}
 
--- ---- what is there
+-- ---- defined values
 
 truth_serves : (s : Option Sort) (u : Value) → FitsKnown (truth_sort s) u → IsTruth u
 truth_serves None u h = absurd h
@@ -37,9 +38,9 @@ truth_of : (s : Option Sort) (v : Value) (b : Bool) → FitsKnown s v → FitsKn
 truth_of None v b h = absurd h
 truth_of (Some s) v b h = (b, refl)
 
-beside_of : (s t : Option Sort) (v u : Value) → FitsKnown s v → FitsKnown t u → FitsKnown (beside s t) u
-beside_of None t v u h k = absurd h
-beside_of (Some s) t v u h k = k
+if_known_of : (s t : Option Sort) (v u : Value) → FitsKnown s v → FitsKnown t u → FitsKnown (if_known s t) u
+if_known_of None t v u h k = absurd h
+if_known_of (Some s) t v u h k = k
 
 abbrev IsThere : Option Sort → Type 0
 IsThere o = (s : Sort) × (o ≡ Some s)
@@ -48,8 +49,8 @@ there_of : (o : Option Sort) (v : Value) → FitsKnown o v → IsThere o
 there_of None v h = absurd h
 there_of (Some s) v h = (s, refl)
 
-beside_there : (s t : Option Sort) (u : Value) → IsThere s → FitsKnown t u → FitsKnown (beside s t) u
-beside_there s t u h k = subst (λ (o : Option Sort). FitsKnown (beside o t) u) (sym h.1) k
+if_known_there : (s t : Option Sort) (u : Value) → IsThere s → FitsKnown t u → FitsKnown (if_known s t) u
+if_known_there s t u h k = subst (λ (o : Option Sort). FitsKnown (if_known o t) u) (sym h.1) k
 
 fold_there : (xs : List Facts) (o : Option Sort) → IsThere o → Each (λ x. IsThere x.sort) xs → IsThere (fold (λ sort a. join_both sort a.sort) o xs)
 fold_there [] o h e = h
@@ -70,33 +71,33 @@ each_map P f (x ∷ xs) h = (h.0, each_map P f xs h.1)
 
 -- ---- expressions
 
-module _ (on : Sorting) where
-  -- names stand for values of their sorts
-  abbrev pub Agrees : Reading → Type 0
+module _ (on : SortEnvironment) where
+  -- names have values of their sorts
+  abbrev pub Agrees : Environment → Type 0
   Agrees now = (path : List Name) → has_kind (on path) ≡ true → is_small (on path) ≡ true → (v : Value) × (now path ≡ Some v) × FitsKnown (on path) v
 
-  -- what keeps the rules has a value, and allows one as a right side
-  pub record SoundAs (f : Facts) (sh : Shape) (s : Sense) : Type 0 where
+  -- an expression that keeps the rules has a value, and allows one as a right side
+  pub record SoundAs (f : Facts) (sh : Shape) (s : Denotation) : Type 0 where
     pub loose : sh.plain ≡ true → sh.free ≡ true
-    pub value : (now after : Reading) → Agrees now → Agrees after → IsKept f → sh.plain ≡ true → Meets f (s.value now after)
-    pub allows : (now after : Reading) → Agrees now → Agrees after → IsKept f → sh.free ≡ true → Allows f (s.allows now after)
+    pub value : (now after : Environment) → Agrees now → Agrees after → IsKept f → sh.plain ≡ true → Meets f (s.value now after)
+    pub allows : (now after : Environment) → Agrees now → Agrees after → IsKept f → sh.free ≡ true → Allows f (s.allows now after)
 
-  record SoundAsChoice (o : Offer) (sh : Shape) (al : Allowed) : Type 0 where
-    within : (now after : Reading) → Agrees now → Agrees after → IsKept (offered o) → sh.plain ≡ true → (v : Value) → (b : Bool) × (al now after v ≡ Some b)
-    allows : (now after : Reading) → Agrees now → Agrees after → IsKept (offered o) → sh.free ≡ true → Allows (offered o) (al now after)
+  record SoundAsChoice (o : ChoiceFacts) (sh : Shape) (al : Allowed) : Type 0 where
+    within : (now after : Environment) → Agrees now → Agrees after → IsKept (pick_facts o) → sh.plain ≡ true → (v : Value) → (b : Bool) × (al now after v ≡ Some b)
+    allows : (now after : Environment) → Agrees now → Agrees after → IsKept (pick_facts o) → sh.free ≡ true → Allows (pick_facts o) (al now after)
 
-  record SoundAsBranch (g : Guarded) (sh : BranchShape) (s : BranchSense) : Type 0 where
+  record SoundAsBranch (g : BranchFacts) (sh : BranchShape) (s : BranchDenotation) : Type 0 where
     cond : SoundAs g.cond sh.cond s.cond
     value : SoundAs g.value sh.value s.value
 
   abbrev SoundExpr : Expr → Type 0
-  SoundExpr e = SoundAs (facts_of on e) (shape_of e) (sense_of e)
+  SoundExpr e = SoundAs (facts_of on e) (shape_of e) (denotation_of e)
 
   abbrev SoundChoice : Choice → Type 0
-  SoundChoice c = SoundAsChoice (offer_of on c) (choice_shape c) (choice_allows c)
+  SoundChoice c = SoundAsChoice (choice_facts_of on c) (choice_shape c) (choice_allows c)
 
   abbrev SoundBranch : Branch → Type 0
-  SoundBranch b = SoundAsBranch (guarded_of on b) (branch_shape b) (branch_sense_of b)
+  SoundBranch b = SoundAsBranch (branch_facts_of on b) (branch_shape b) (branch_denotation_of b)
 
   abbrev Exprs : Type 0
   Exprs = (e : Expr) × SoundExpr e
@@ -107,9 +108,9 @@ module _ (on : Sorting) where
   abbrev Branches : Type 0
   Branches = (b : Branch) × SoundBranch b
 
-  -- an expression that is no choice allows its value
-  alone : (f : Facts) (plain : Bool) (meant : Valued) → ((now after : Reading) → Agrees now → Agrees after → IsKept f → plain ≡ true → Meets f (meant now after)) → SoundAs f (single_shape plain) (single meant)
-  alone f plain meant has = record {
+  -- an expression other than a choice allows exactly its value
+  alone : (f : Facts) (plain : Bool) (binding : Valued) → ((now after : Environment) → Agrees now → Agrees after → IsKept f → plain ≡ true → Meets f (binding now after)) → SoundAs f (single_shape plain) (single binding)
+  alone f plain binding has = record {
     loose = λ e. e;
     value = has;
     allows = λ now after n a k p.
@@ -129,14 +130,14 @@ module _ (on : Sorting) where
   abbrev shapes_from : List Exprs → List Shape
   shapes_from xs = map shape_of (map (λ x. x.0) xs)
 
-  parts_total : (now after : Reading) → Agrees now → Agrees after → (xs : List Exprs) → AllKept (facts_from xs) → list_all (λ p. p.free) (shapes_from xs) ≡ true → (v : Value) → (b : Bool) × (parts_allow now after v (map sense_of (map (λ x. x.0) xs)) ≡ Some b)
+  parts_total : (now after : Environment) → Agrees now → Agrees after → (xs : List Exprs) → AllKept (facts_from xs) → list_all (λ p. p.free) (shapes_from xs) ≡ true → (v : Value) → (b : Bool) × (parts_allow now after v (map denotation_of (map (λ x. x.0) xs)) ≡ Some b)
   parts_total now after n a [] k s v = (false, refl)
   parts_total now after n a (x ∷ xs) k s v =
       let f = first_kept (facts_of on x.0) (facts_from xs) k in
       let t = both_true (shape_of x.0).free (list_all (λ p. p.free) (shapes_from xs)) s in
       let b = (x.1.allows now after n a f.0 t.0).total v in
       let c = parts_total now after n a xs f.1 t.1 v in
-      (b.0 || c.0, ap (λ (o : Option Bool). of_both (λ b c. Some (b || c)) o (parts_allow now after v (map sense_of (map (λ x. x.0) xs)))) b.1 ∙ ap (of_both (λ b c. Some (b || c)) (Some b.0)) c.1)
+      (b.0 || c.0, ap (λ (o : Option Bool). of_both (λ b c. Some (b || c)) o (parts_allow now after v (map denotation_of (map (λ x. x.0) xs)))) b.1 ∙ ap (of_both (λ b c. Some (b || c)) (Some b.0)) c.1)
 
   loose_parts : (xs : List Exprs) → list_all (λ p. p.plain) (shapes_from xs) ≡ true → list_all (λ p. p.free) (shapes_from xs) ≡ true
   loose_parts [] h = refl
@@ -144,8 +145,8 @@ module _ (on : Sorting) where
       let t = both_true (shape_of x.0).plain (list_all (λ p. p.plain) (shapes_from xs)) h in
       rw (x.1.loose t.0) (loose_parts xs t.1)
 
-  parts_some : (now after : Reading) → Agrees now → Agrees after → (xs : List Exprs) → IsKept (parts_facts (facts_from xs)) → list_all (λ p. p.free) (shapes_from xs) ≡ true →
-      (v : Value) × IsOf (parts_facts (facts_from xs)) v × (parts_allow now after v (map sense_of (map (λ x. x.0) xs)) ≡ Some true)
+  parts_some : (now after : Environment) → Agrees now → Agrees after → (xs : List Exprs) → IsKept (parts_facts (facts_from xs)) → list_all (λ p. p.free) (shapes_from xs) ≡ true →
+      (v : Value) × IsOf (parts_facts (facts_from xs)) v × (parts_allow now after v (map denotation_of (map (λ x. x.0) xs)) ≡ Some true)
   parts_some now after n a [] k s = let e = k.kinds in cc
   parts_some now after n a (x ∷ xs) k s =
       let f = first_kept (facts_of on x.0) (facts_from xs) (parts_kept (facts_from (x ∷ xs)) k) in
@@ -153,11 +154,11 @@ module _ (on : Sorting) where
       let w = (x.1.allows now after n a f.0 t.0).some in
       let c = parts_total now after n a xs f.1 t.1 w.0 in
       let up = (part_of (facts_from (x ∷ xs)) k).0 in
-      (w.0, up w.0 w.1, ap (λ (o : Option Bool). of_both (λ b c. Some (b || c)) o (parts_allow now after w.0 (map sense_of (map (λ x. x.0) xs)))) w.2 ∙ ap (of_both (λ b c. Some (b || c)) (Some true)) c.1)
+      (w.0, up w.0 w.1, ap (λ (o : Option Bool). of_both (λ b c. Some (b || c)) o (parts_allow now after w.0 (map denotation_of (map (λ x. x.0) xs)))) w.2 ∙ ap (of_both (λ b c. Some (b || c)) (Some true)) c.1)
 
-  -- a value that one of the parts allows is the same as one of what is known of all
-  parts_each : (now after : Reading) → Agrees now → Agrees after → (f : Facts) (xs : List Exprs) → Each (λ g. (w : Value) → IsOf g w → IsOf f w) (facts_from xs) → AllKept (facts_from xs) → list_all (λ p. p.free) (shapes_from xs) ≡ true →
-      (v : Value) → parts_allow now after v (map sense_of (map (λ x. x.0) xs)) ≡ Some true → (w : Value) × (same v w ≡ true) × IsOf f w
+  -- a value that one of the parts allows equals one that agrees with the facts of all
+  parts_each : (now after : Environment) → Agrees now → Agrees after → (f : Facts) (xs : List Exprs) → Each (λ g. (w : Value) → IsOf g w → IsOf f w) (facts_from xs) → AllKept (facts_from xs) → list_all (λ p. p.free) (shapes_from xs) ≡ true →
+      (v : Value) → parts_allow now after v (map denotation_of (map (λ x. x.0) xs)) ≡ Some true → (w : Value) × (same v w ≡ true) × IsOf f w
   parts_each now after n a f [] up k s v h = cc
   parts_each now after n a f (x ∷ xs) up k s v h =
       let g = first_kept (facts_of on x.0) (facts_from xs) k in
@@ -165,7 +166,7 @@ module _ (on : Sorting) where
       let one = x.1.allows now after n a g.0 t.0 in
       let b = one.total v in
       let c = parts_total now after n a xs g.1 t.1 v in
-      let all = ap (λ (o : Option Bool). of_both (λ b c. Some (b || c)) o (parts_allow now after v (map sense_of (map (λ x. x.0) xs)))) b.1 ∙ ap (of_both (λ b c. Some (b || c)) (Some b.0)) c.1 in
+      let all = ap (λ (o : Option Bool). of_both (λ b c. Some (b || c)) o (parts_allow now after v (map denotation_of (map (λ x. x.0) xs)))) b.1 ∙ ap (of_both (λ b c. Some (b || c)) (Some b.0)) c.1 in
       let e : Some (b.0 || c.0) ≡ Some true = sym all ∙ h in
       let some : b.0 || c.0 ≡ true = (cc) in
       elim (either_true b.0 c.0 some) [
@@ -173,40 +174,40 @@ module _ (on : Sorting) where
         | inr i ↦ parts_each now after n a f xs up.1 g.1 t.1 v (c.1 ∙ ap Some i)
       ]
 
-  -- the parts of a choice
+  -- the underlying choice
   abbrev choice_from : Choice-F Choices Exprs Branches → Choice-F Choice Expr Branch
   choice_from = map-Choice Choices Exprs Branches Choice Expr Branch (λ c. c.0) (λ e. e.0) (λ b. b.0)
 
-  abbrev choice_facts : Choice-F Choice Expr Branch → Choice-F Offer Facts Guarded
-  choice_facts = map-Choice Choice Expr Branch Offer Facts Guarded (offer_of on) (facts_of on) (guarded_of on)
+  abbrev choice_facts : Choice-F Choice Expr Branch → Choice-F ChoiceFacts Facts BranchFacts
+  choice_facts = map-Choice Choice Expr Branch ChoiceFacts Facts BranchFacts (choice_facts_of on) (facts_of on) (branch_facts_of on)
 
   abbrev choice_shapes : Choice-F Choice Expr Branch → Choice-F Shape Shape BranchShape
   choice_shapes = map-Choice Choice Expr Branch Shape Shape BranchShape choice_shape shape_of branch_shape
 
-  abbrev choice_senses : Choice-F Choice Expr Branch → Choice-F Allowed Sense BranchSense
-  choice_senses = map-Choice Choice Expr Branch Allowed Sense BranchSense choice_allows sense_of branch_sense_of
+  abbrev choice_denotations : Choice-F Choice Expr Branch → Choice-F Allowed Denotation BranchDenotation
+  choice_denotations = map-Choice Choice Expr Branch Allowed Denotation BranchDenotation choice_allows denotation_of branch_denotation_of
 
-  span_each : (low high : ℤ) → is_small (Some (span_sort low high)) ≡ true → (v : Value) → in_range low high v ≡ true → (w : Value) × (same v w ≡ true) × IsOf (span_facts low high) w
-  span_each low high small (Whole m) h =
+  interval_each : (low high : ℤ) → is_small (Some (interval_sort low high)) ≡ true → (v : Value) → in_range low high v ≡ true → (w : Value) × (same v w ≡ true) × IsOf (interval_facts low high) w
+  interval_each low high small (Whole m) h =
       let b = both_true (int_le low m) (int_le m high) h in
       let l = b.0 in
       let k = b.1 in
       (Whole m, same_value (Whole m), record { sort = (count_is low high m small (omega (arith, ints, l)) (omega (arith, ints, k))).0; serves = λ f. cc })
-  span_each low high small (Truth b) h = cc
-  span_each low high small (Word name) h = cc
+  interval_each low high small (Truth b) h = cc
+  interval_each low high small (Word name) h = cc
 
-  span_some : (low high : ℤ) → IsKept (span_facts low high) → int_le low high ≡ true → Allows (span_facts low high) (λ v. Some (in_range low high v))
-  span_some low high k e =
-      let n = node_kept (Some (span_sort low high)) false true true true k in
+  interval_some : (low high : ℤ) → IsKept (interval_facts low high) → int_le low high ≡ true → Allows (interval_facts low high) (λ v. Some (in_range low high v))
+  interval_some low high k e =
+      let n = node_kept (Some (interval_sort low high)) false true true true k in
       let c = count_is low high low n.narrow (omega (arith, ints)) (omega (arith, ints, e)) in
       let l : int_le low low ≡ true = grind (arith, ints) in
       record {
         total = λ v. (in_range low high v, refl);
         some = (Whole low, record { sort = c.0; serves = λ f. cc }, ap Some (ap (λ (b : Bool). b && int_le low high) l ∙ e));
-        each = λ v h. span_each low high n.narrow v (cc);
+        each = λ v h. interval_each low high n.narrow v (cc);
       }
 
-  choice_sound : (y : Choice-F Choices Exprs Branches) → SoundAsChoice (choice_layer (choice_facts (choice_from y))) (choice_shape_layer (choice_shapes (choice_from y))) (choice_sense (choice_senses (choice_from y)))
+  choice_sound : (y : Choice-F Choices Exprs Branches) → SoundAsChoice (choice_layer (choice_facts (choice_from y))) (choice_shape_layer (choice_shapes (choice_from y))) (choice_denotation (choice_denotations (choice_from y)))
   choice_sound (Choice-F.Each xs) = record {
     within = λ now after n a k p v. parts_total now after n a xs (parts_kept (facts_from xs) k) (loose_parts xs p) v;
     allows = λ now after n a k p. record {
@@ -217,117 +218,117 @@ module _ (on : Sorting) where
   }
   choice_sound (Choice-F.Between low high) = record {
     within = λ now after n a k p v. (in_range low high v, refl);
-    allows = λ now after n a k p. span_some low high k p;
+    allows = λ now after n a k p. interval_some low high k p;
   }
 
   -- ---- cases
 
-  -- what is known of the branches of a case
+  -- the facts of the branches of a case
   abbrev conds : List Branches → List Facts
-  conds bs = map (λ g. g.cond) (map (guarded_of on) (map (λ b. b.0) bs))
+  conds bs = map (λ g. g.cond) (map (branch_facts_of on) (map (λ b. b.0) bs))
 
   abbrev values : List Branches → List Facts
-  values bs = map (λ g. g.value) (map (guarded_of on) (map (λ b. b.0) bs))
+  values bs = map (λ g. g.value) (map (branch_facts_of on) (map (λ b. b.0) bs))
 
   abbrev branch_shapes : List Branches → List BranchShape
   branch_shapes bs = map branch_shape (map (λ b. b.0) bs)
 
-  abbrev senses : List Branches → List BranchSense
-  senses bs = map branch_sense_of (map (λ b. b.0) bs)
+  abbrev denotations : List Branches → List BranchDenotation
+  denotations bs = map branch_denotation_of (map (λ b. b.0) bs)
 
   -- a branch whose parts keep the rules
   record Ready (b : Branches) : Type 0 where
-    cond : IsKept (guarded_of on b.0).cond
-    fits : (guarded_of on b.0).cond.fits ≡ true
+    cond : IsKept (branch_facts_of on b.0).cond
+    fits : (branch_facts_of on b.0).cond.fits ≡ true
     plain : (branch_shape b.0).cond.plain ≡ true
-    value : IsKept (guarded_of on b.0).value
+    value : IsKept (branch_facts_of on b.0).value
 
   ready : (bs : List Branches) → AllKept (conds bs) → all_fit (conds bs) ≡ true → AllKept (values bs) → list_all (λ b. b.cond.plain) (branch_shapes bs) ≡ true → Each Ready bs
   ready [] c f v s = tt
   ready (b ∷ bs) c f v s =
-      let x = first_kept (guarded_of on b.0).cond (conds bs) c in
-      let y = both_true (guarded_of on b.0).cond.fits (all_fit (conds bs)) f in
-      let z = first_kept (guarded_of on b.0).value (values bs) v in
+      let x = first_kept (branch_facts_of on b.0).cond (conds bs) c in
+      let y = both_true (branch_facts_of on b.0).cond.fits (all_fit (conds bs)) f in
+      let z = first_kept (branch_facts_of on b.0).value (values bs) v in
       let p = both_true (branch_shape b.0).cond.plain (list_all (λ b. b.cond.plain) (branch_shapes bs)) s in
       (record { cond = x.0; fits = y.0; plain = p.0; value = z.0 }, ready bs x.1 y.1 z.1 p.1)
 
-  module _ (now after : Reading) (n : Agrees now) (a : Agrees after) where
+  module _ (now after : Environment) (n : Agrees now) (a : Agrees after) where
     -- each condition has a truth value
-    told : (bs : List Branches) → Each Ready bs → Each (λ b. (t : Bool) × (holds_in now after (branch_sense_of b.0) ≡ Some t)) bs
-    told [] r = tt
-    told (b ∷ bs) r =
+    known_of : (bs : List Branches) → Each Ready bs → Each (λ b. (t : Bool) × (holds_in now after (branch_denotation_of b.0) ≡ Some t)) bs
+    known_of [] r = tt
+    known_of (b ∷ bs) r =
         let m = b.1.cond.value now after n a r.0.cond r.0.plain in
         let t = m.2.serves r.0.fits in
-        ((t.0, ap (λ (o : Option Value). and_then o truth) m.1 ∙ t.1), told bs r.1)
+        ((t.0, ap (λ (o : Option Value). and_then o truth) m.1 ∙ t.1), known_of bs r.1)
 
-    -- the branch that is taken is one of them
+    -- the selected branch is one of them
     abbrev TakesOne : (Branches → Type 0) → List Branches → Type 0
-    TakesOne P bs = (b : Branches) × (taken_in now after (senses bs) ≡ Some (branch_sense_of b.0)) × P b
+    TakesOne P bs = (b : Branches) × (taken_in now after (denotations bs) ≡ Some (branch_denotation_of b.0)) × P b
 
     taken_is : (P : Branches → Type 0) (bs : List Branches) → HasOne bs → Each Ready bs → Each P bs → TakesOne P bs
     taken_is P bs k r p =
-        let t = takes_one (λ b. branch_sense_of b.0) (holds_in now after) P bs k (told bs r) p in
-        (t.0, ap (taken (holds_in now after)) (map_twice branch_sense_of (λ b. b.0) bs) ∙ t.1, t.2)
+        let t = takes_one (λ b. branch_denotation_of b.0) (holds_in now after) P bs k (known_of bs r) p in
+        (t.0, ap (taken (holds_in now after)) (map_twice branch_denotation_of (λ b. b.0) bs) ∙ t.1, t.2)
 
-    -- the sorts of the conditions are there
+    -- the sorts of the conditions are known
     conds_there : (bs : List Branches) → Each Ready bs → Each (λ x. IsThere x.sort) (conds bs)
     conds_there [] r = tt
     conds_there (b ∷ bs) r =
-        let m = b.1.cond.value now after n a r.0.cond r.0.plain in (there_of (guarded_of on b.0).cond.sort m.0 m.2.sort, conds_there bs r.1)
+        let m = b.1.cond.value now after n a r.0.cond r.0.plain in (there_of (branch_facts_of on b.0).cond.sort m.0 m.2.sort, conds_there bs r.1)
 
-    -- a value of a branch is of what is known of the case
+    -- a value of a branch agrees with the facts of the case
     lifted : (bs : List Branches) (v : Value) → Each Ready bs → IsOf (parts_facts (values bs)) v → IsOf (case_facts (conds bs) (values bs)) v
     lifted bs v r h = record {
-      sort = beside_there (parts_sort (conds bs)) (parts_sort (values bs)) v (parts_there (conds bs) (conds_there bs r)) h.sort;
+      sort = if_known_there (parts_sort (conds bs)) (parts_sort (values bs)) v (parts_there (conds bs) (conds_there bs r)) h.sort;
       serves = h.serves;
     }
 
-  -- what is known of a case is kept in its parts
+  -- a case that keeps the rules has parts that keep them
   abbrev Parted : List Branches → Type 0
   Parted bs = CaseKept (conds bs) (values bs)
 
   one_of : (bs : List Branches) → HasOne (values bs) → HasOne bs
-  one_of bs h = some_mapped (λ b. b.0) bs (some_mapped (guarded_of on) (map (λ b. b.0) bs) (some_mapped (λ g. g.value) (map (guarded_of on) (map (λ b. b.0) bs)) h))
+  one_of bs h = some_mapped (λ b. b.0) bs (some_mapped (branch_facts_of on) (map (λ b. b.0) bs) (some_mapped (λ g. g.value) (map (branch_facts_of on) (map (λ b. b.0) bs)) h))
 
   -- a branch of a case that keeps the rules
-  record Piece (f : Facts) (flag : BranchShape → Bool) (b : Branches) : Type 0 where
+  record SoundPart (f : Facts) (flag : BranchShape → Bool) (b : Branches) : Type 0 where
     is_ready : Ready b
-    up : (v : Value) → IsOf (guarded_of on b.0).value v → IsOf f v
+    up : (v : Value) → IsOf (branch_facts_of on b.0).value v → IsOf f v
     flagged : flag (branch_shape b.0) ≡ true
 
   ready_of : (bs : List Branches) → Parted bs → list_all (λ b. b.cond.plain) (branch_shapes bs) ≡ true → Each Ready bs
   ready_of bs c s = ready bs c.conds_kept c.fit (parts_kept (values bs) c.set) s
 
-  pieces : (flag : BranchShape → Bool) (bs : List Branches) → Parted bs → Each Ready bs → list_all flag (branch_shapes bs) ≡ true → Each (Piece (parts_facts (values bs)) flag) bs
-  pieces flag bs c r s =
+  sound_parts : (flag : BranchShape → Bool) (bs : List Branches) → Parted bs → Each Ready bs → list_all flag (branch_shapes bs) ≡ true → Each (SoundPart (parts_facts (values bs)) flag) bs
+  sound_parts flag bs c r s =
       let f = parts_facts (values bs) in
-      let ups = each_map (λ g. (v : Value) → IsOf g.value v → IsOf f v) (guarded_of on) (map (λ b. b.0) bs) (each_map (λ x. (v : Value) → IsOf x v → IsOf f v) (λ g. g.value) (map (guarded_of on) (map (λ b. b.0) bs)) (part_of (values bs) c.set)) in
+      let ups = each_map (λ g. (v : Value) → IsOf g.value v → IsOf f v) (branch_facts_of on) (map (λ b. b.0) bs) (each_map (λ x. (v : Value) → IsOf x v → IsOf f v) (λ g. g.value) (map (branch_facts_of on) (map (λ b. b.0) bs)) (part_of (values bs) c.set)) in
       let flags = each_map (λ s. flag s ≡ true) branch_shape (map (λ b. b.0) bs) (each_all flag (branch_shapes bs) s) in
-      let both = each_both (λ b. (v : Value) → IsOf (guarded_of on b).value v → IsOf f v) (λ b. flag (branch_shape b) ≡ true) (λ b. ((v : Value) → IsOf (guarded_of on b).value v → IsOf f v) × (flag (branch_shape b) ≡ true)) (λ b x y. (x, y)) (map (λ b. b.0) bs) ups flags in
-      each_both Ready (λ b. ((v : Value) → IsOf (guarded_of on b.0).value v → IsOf f v) × (flag (branch_shape b.0) ≡ true)) (Piece f flag) (λ b x y. record { is_ready = x; up = y.0; flagged = y.1 }) bs r (each_map (λ b. ((v : Value) → IsOf (guarded_of on b).value v → IsOf f v) × (flag (branch_shape b) ≡ true)) (λ b. b.0) bs both)
+      let both = each_both (λ b. (v : Value) → IsOf (branch_facts_of on b).value v → IsOf f v) (λ b. flag (branch_shape b) ≡ true) (λ b. ((v : Value) → IsOf (branch_facts_of on b).value v → IsOf f v) × (flag (branch_shape b) ≡ true)) (λ b x y. (x, y)) (map (λ b. b.0) bs) ups flags in
+      each_both Ready (λ b. ((v : Value) → IsOf (branch_facts_of on b.0).value v → IsOf f v) × (flag (branch_shape b.0) ≡ true)) (SoundPart f flag) (λ b x y. record { is_ready = x; up = y.0; flagged = y.1 }) bs r (each_map (λ b. ((v : Value) → IsOf (branch_facts_of on b).value v → IsOf f v) × (flag (branch_shape b) ≡ true)) (λ b. b.0) bs both)
 
-  case_value : (now after : Reading) → Agrees now → Agrees after → (bs : List Branches) → IsKept (case_facts (conds bs) (values bs)) → list_all (λ b. b.cond.plain && b.value.plain) (branch_shapes bs) ≡ true →
-      Meets (case_facts (conds bs) (values bs)) (and_then (taken_in now after (senses bs)) (λ s. s.value.value now after))
+  case_value : (now after : Environment) → Agrees now → Agrees after → (bs : List Branches) → IsKept (case_facts (conds bs) (values bs)) → list_all (λ b. b.cond.plain && b.value.plain) (branch_shapes bs) ≡ true →
+      Meets (case_facts (conds bs) (values bs)) (and_then (taken_in now after (denotations bs)) (λ s. s.value.value now after))
   case_value now after n a bs k p =
       let c = case_kept (conds bs) (values bs) k in
       let s = all_twice (λ b. b.cond.plain) (λ b. b.value.plain) (branch_shapes bs) p in
       let r = ready_of bs c s.0 in
-      let t = taken_is now after n a (Piece (parts_facts (values bs)) (λ b. b.value.plain)) bs (one_of bs c.one) r (pieces (λ b. b.value.plain) bs c r s.1) in
+      let t = taken_is now after n a (SoundPart (parts_facts (values bs)) (λ b. b.value.plain)) bs (one_of bs c.one) r (sound_parts (λ b. b.value.plain) bs c r s.1) in
       let m = t.0.1.value.value now after n a t.2.is_ready.value t.2.flagged in
-      (m.0, ap (λ (o : Option BranchSense). and_then o (λ s. s.value.value now after)) t.1 ∙ m.1, lifted now after n a bs m.0 r (t.2.up m.0 m.2))
+      (m.0, ap (λ (o : Option BranchDenotation). and_then o (λ s. s.value.value now after)) t.1 ∙ m.1, lifted now after n a bs m.0 r (t.2.up m.0 m.2))
 
-  case_allowed : (now after : Reading) → Agrees now → Agrees after → (bs : List Branches) → IsKept (case_facts (conds bs) (values bs)) → list_all (λ b. b.cond.plain && b.value.free) (branch_shapes bs) ≡ true →
-      Allows (case_facts (conds bs) (values bs)) (λ v. and_then (taken_in now after (senses bs)) (λ s. s.value.allows now after v))
+  case_allowed : (now after : Environment) → Agrees now → Agrees after → (bs : List Branches) → IsKept (case_facts (conds bs) (values bs)) → list_all (λ b. b.cond.plain && b.value.free) (branch_shapes bs) ≡ true →
+      Allows (case_facts (conds bs) (values bs)) (λ v. and_then (taken_in now after (denotations bs)) (λ s. s.value.allows now after v))
   case_allowed now after n a bs k p =
       let c = case_kept (conds bs) (values bs) k in
       let s = all_twice (λ b. b.cond.plain) (λ b. b.value.free) (branch_shapes bs) p in
       let r = ready_of bs c s.0 in
-      let t = taken_is now after n a (Piece (parts_facts (values bs)) (λ b. b.value.free)) bs (one_of bs c.one) r (pieces (λ b. b.value.free) bs c r s.1) in
+      let t = taken_is now after n a (SoundPart (parts_facts (values bs)) (λ b. b.value.free)) bs (one_of bs c.one) r (sound_parts (λ b. b.value.free) bs c r s.1) in
       let m = t.0.1.value.allows now after n a t.2.is_ready.value t.2.flagged in
       record {
-        total = λ v. let x = m.total v in (x.0, ap (λ (o : Option BranchSense). and_then o (λ s. s.value.allows now after v)) t.1 ∙ x.1);
-        some = (m.some.0, lifted now after n a bs m.some.0 r (t.2.up m.some.0 m.some.1), ap (λ (o : Option BranchSense). and_then o (λ s. s.value.allows now after m.some.0)) t.1 ∙ m.some.2);
-        each = λ v h. let x = m.each v (sym (ap (λ (o : Option BranchSense). and_then o (λ s. s.value.allows now after v)) t.1) ∙ h) in (x.0, x.1, lifted now after n a bs x.0 r (t.2.up x.0 x.2));
+        total = λ v. let x = m.total v in (x.0, ap (λ (o : Option BranchDenotation). and_then o (λ s. s.value.allows now after v)) t.1 ∙ x.1);
+        some = (m.some.0, lifted now after n a bs m.some.0 r (t.2.up m.some.0 m.some.1), ap (λ (o : Option BranchDenotation). and_then o (λ s. s.value.allows now after m.some.0)) t.1 ∙ m.some.2);
+        each = λ v h. let x = m.each v (sym (ap (λ (o : Option BranchDenotation). and_then o (λ s. s.value.allows now after v)) t.1) ∙ h) in (x.0, x.1, lifted now after n a bs x.0 r (t.2.up x.0 x.2));
       }
 
   case_loose : (bs : List Branches) → list_all (λ b. b.cond.plain && b.value.plain) (branch_shapes bs) ≡ true → list_all (λ b. b.cond.plain && b.value.free) (branch_shapes bs) ≡ true
@@ -337,7 +338,7 @@ module _ (on : Sorting) where
       let y = both_true (branch_shape b.0).cond.plain (branch_shape b.0).value.plain x.0 in
       rw (y.0, b.1.value.loose y.1) (case_loose bs x.1)
 
-  cases_sound : (bs : List Branches) → SoundAs (case_facts (conds bs) (values bs)) (expr_shape_layer (Expr-F.Cases (branch_shapes bs))) (expr_sense (Expr-F.Cases (senses bs)))
+  cases_sound : (bs : List Branches) → SoundAs (case_facts (conds bs) (values bs)) (expr_shape_layer (Expr-F.Cases (branch_shapes bs))) (expr_denotation (Expr-F.Cases (denotations bs)))
   cases_sound bs = record {
     loose = case_loose bs;
     value = λ now after n a k p. case_value now after n a bs k p;
@@ -349,16 +350,16 @@ module _ (on : Sorting) where
   abbrev expr_from : Expr-F Choices Exprs Branches → Expr-F Choice Expr Branch
   expr_from = map-Expr Choices Exprs Branches Choice Expr Branch (λ c. c.0) (λ e. e.0) (λ b. b.0)
 
-  abbrev expr_facts : Expr-F Choice Expr Branch → Expr-F Offer Facts Guarded
-  expr_facts = map-Expr Choice Expr Branch Offer Facts Guarded (offer_of on) (facts_of on) (guarded_of on)
+  abbrev expr_facts : Expr-F Choice Expr Branch → Expr-F ChoiceFacts Facts BranchFacts
+  expr_facts = map-Expr Choice Expr Branch ChoiceFacts Facts BranchFacts (choice_facts_of on) (facts_of on) (branch_facts_of on)
 
   abbrev expr_shapes : Expr-F Choice Expr Branch → Expr-F Shape Shape BranchShape
   expr_shapes = map-Expr Choice Expr Branch Shape Shape BranchShape choice_shape shape_of branch_shape
 
-  abbrev expr_senses : Expr-F Choice Expr Branch → Expr-F Allowed Sense BranchSense
-  expr_senses = map-Expr Choice Expr Branch Allowed Sense BranchSense choice_allows sense_of branch_sense_of
+  abbrev expr_denotations : Expr-F Choice Expr Branch → Expr-F Allowed Denotation BranchDenotation
+  expr_denotations = map-Expr Choice Expr Branch Allowed Denotation BranchDenotation choice_allows denotation_of branch_denotation_of
 
-  name_value : (now : Reading) → Agrees now → (path : List Name) → IsKept (name_facts (on path)) → Meets (name_facts (on path)) (now path)
+  name_value : (now : Environment) → Agrees now → (path : List Name) → IsKept (name_facts (on path)) → Meets (name_facts (on path)) (now path)
   name_value now n path k =
       let d = node_kept (on path) (is_boolean (on path)) true true true k in
       let r = n path d.kind d.narrow in
@@ -366,22 +367,22 @@ module _ (on : Sorting) where
 
   number_value : (m : ℕ) → IsKept (number_facts m) → IsOf (number_facts m) (Whole (pos m))
   number_value m k =
-      let d = node_kept (Some (span_sort (pos m) (pos m))) (nat_le m 1) true true true k in
+      let d = node_kept (Some (interval_sort (pos m) (pos m))) (nat_le m 1) true true true k in
       record { sort = (count_is (pos m) (pos m) (pos m) d.narrow (omega (arith, ints)) (omega (arith, ints))).0; serves = numeral_serves m }
 
   neg_value : (a : Facts) (o : Option Value) → IsKept (negation_facts a) → (IsKept a → Meets a o) → Meets (negation_facts a) (and_then o negated)
   neg_value a o k has =
       let d = negation_kept a k in
       let m = has d.0 in
-      let r = negation_makes a.sort m.0 d.1 d.2 m.2.sort in
+      let r = negation_transfer a.sort m.0 d.1 d.2 m.2.sort in
       (r.0, ap (λ (x : Option Value). and_then x negated) m.1 ∙ r.1, record { sort = r.2; serves = λ e. cc })
 
-  not_value : (a : Facts) (o : Option Value) → IsKept (denial_facts a) → (IsKept a → Meets a o) → Meets (denial_facts a) (and_then o denied)
+  not_value : (a : Facts) (o : Option Value) → IsKept (not_facts a) → (IsKept a → Meets a o) → Meets (not_facts a) (and_then o logical_not)
   not_value a o k has =
-      let d = denial_kept a k in
+      let d = not_kept a k in
       let m = has d.0 in
-      let r = denial_makes a m.0 d.1 m.2 in
-      (r.0, ap (λ (x : Option Value). and_then x denied) m.1 ∙ r.1, record { sort = r.2; serves = λ e. truth_serves a.sort r.0 r.2 })
+      let r = not_transfer a m.0 d.1 m.2 in
+      (r.0, ap (λ (x : Option Value). and_then x logical_not) m.1 ∙ r.1, record { sort = r.2; serves = λ e. truth_serves a.sort r.0 r.2 })
 
   next_value : (a : Facts) (o : Option Value) → IsKept (next_facts a) → (IsKept a → Meets a o) → Meets (next_facts a) o
   next_value a o k has =
@@ -393,46 +394,46 @@ module _ (on : Sorting) where
       let d = binary_kept p a b k in
       let m = has d.left in
       let n = had d.right in
-      let r = operator_makes p a b m.0 n.0 d.rule d.divides d.narrow m.2 n.2 in
+      let r = operator_transfer p a b m.0 n.0 d.rule d.divides d.narrow m.2 n.2 in
       (r.0, ap (λ (x : Option Value). of_both (operate p) x q) m.1 ∙ (ap (of_both (operate p) (Some m.0)) n.1 ∙ r.1), record { sort = r.2; serves = λ e. as_boolean (binary_sort p a.sort b.sort) r.0 e r.2 })
 
-  -- a truth value beside what is looked for in a choice
-  within_of : (a : Facts) (c : Offer) (v : Value) (b : Bool) → IsKept (offered c) → IsOf a v → IsOf (within_offer a c) (Truth b)
+  -- the truth value of `in`
+  within_of : (a : Facts) (c : ChoiceFacts) (v : Value) (b : Bool) → IsKept (pick_facts c) → IsOf a v → IsOf (within_choice a c) (Truth b)
   within_of a (Parts parts) v b k h =
       let there = (both_true (all_kinds parts && all_suit (parts_sort parts) parts) (has_kind (parts_sort parts)) k.kinds).1 in
-      record { sort = beside_of a.sort (truth_sort (parts_sort parts)) v (Truth b) h.sort (truth_there (parts_sort parts) b there); serves = λ e. (b, refl) }
-  within_of a (Span low high) v b k h = record { sort = truth_of a.sort v b h.sort; serves = λ e. (b, refl) }
+      record { sort = if_known_of a.sort (truth_sort (parts_sort parts)) v (Truth b) h.sort (truth_there (parts_sort parts) b there); serves = λ e. (b, refl) }
+  within_of a (Between low high) v b k h = record { sort = truth_of a.sort v b h.sort; serves = λ e. (b, refl) }
 
-  -- a value and a choice that it is looked for in
-  within_value : (a : Facts) (c : Offer) (o : Option Value) (al : Value → Option Bool) → IsKept (within_offer a c) → (IsKept a → Meets a o) → (IsKept (offered c) → (v : Value) → (b : Bool) × (al v ≡ Some b)) →
-      Meets (within_offer a c) (and_then o (λ v. and_then (al v) (λ b. Some (Truth b))))
+  -- the value of `in`, given the value of its left side
+  within_value : (a : Facts) (c : ChoiceFacts) (o : Option Value) (al : Value → Option Bool) → IsKept (within_choice a c) → (IsKept a → Meets a o) → (IsKept (pick_facts c) → (v : Value) → (b : Bool) × (al v ≡ Some b)) →
+      Meets (within_choice a c) (and_then o (λ v. and_then (al v) (λ b. Some (Truth b))))
   within_value a c o al k has had =
       let d = within_kept a c k in
       let m = has d.0 in
       let b = had d.1 m.0 in
       (Truth b.0, ap (λ (x : Option Value). and_then x (λ v. and_then (al v) (λ b. Some (Truth b)))) m.1 ∙ ap (λ (x : Option Bool). and_then x (λ b. Some (Truth b))) b.1, within_of a c m.0 b.0 d.1 m.2)
 
-  neg_sound : (a : Exprs) → SoundAs (negation_facts (facts_of on a.0)) (single_shape (shape_of a.0).plain) (single (λ now after. and_then ((sense_of a.0).value now after) negated))
-  neg_sound a = alone _ _ _ (λ now after n u k p. neg_value (facts_of on a.0) ((sense_of a.0).value now after) k (λ x. a.1.value now after n u x p))
+  neg_sound : (a : Exprs) → SoundAs (negation_facts (facts_of on a.0)) (single_shape (shape_of a.0).plain) (single (λ now after. and_then ((denotation_of a.0).value now after) negated))
+  neg_sound a = alone _ _ _ (λ now after n u k p. neg_value (facts_of on a.0) ((denotation_of a.0).value now after) k (λ x. a.1.value now after n u x p))
 
-  not_sound : (a : Exprs) → SoundAs (denial_facts (facts_of on a.0)) (single_shape (shape_of a.0).plain) (single (λ now after. and_then ((sense_of a.0).value now after) denied))
-  not_sound a = alone _ _ _ (λ now after n u k p. not_value (facts_of on a.0) ((sense_of a.0).value now after) k (λ x. a.1.value now after n u x p))
+  not_sound : (a : Exprs) → SoundAs (not_facts (facts_of on a.0)) (single_shape (shape_of a.0).plain) (single (λ now after. and_then ((denotation_of a.0).value now after) logical_not))
+  not_sound a = alone _ _ _ (λ now after n u k p. not_value (facts_of on a.0) ((denotation_of a.0).value now after) k (λ x. a.1.value now after n u x p))
 
-  next_sound : (a : Exprs) → SoundAs (next_facts (facts_of on a.0)) (single_shape (shape_of a.0).plain) (single (λ now after. (sense_of a.0).value after after))
-  next_sound a = alone _ _ _ (λ now after n u k p. next_value (facts_of on a.0) ((sense_of a.0).value after after) k (λ x. a.1.value after after u u x p))
+  next_sound : (a : Exprs) → SoundAs (next_facts (facts_of on a.0)) (single_shape (shape_of a.0).plain) (single (λ now after. (denotation_of a.0).value after after))
+  next_sound a = alone _ _ _ (λ now after n u k p. next_value (facts_of on a.0) ((denotation_of a.0).value after after) k (λ x. a.1.value after after u u x p))
 
-  binary_sound : (op : Op) (a b : Exprs) → SoundAs (binary_facts op (facts_of on a.0) (facts_of on b.0)) (single_shape ((shape_of a.0).plain && (shape_of b.0).plain)) (single (λ now after. of_both (operate op) ((sense_of a.0).value now after) ((sense_of b.0).value now after)))
+  binary_sound : (op : Op) (a b : Exprs) → SoundAs (binary_facts op (facts_of on a.0) (facts_of on b.0)) (single_shape ((shape_of a.0).plain && (shape_of b.0).plain)) (single (λ now after. of_both (operate op) ((denotation_of a.0).value now after) ((denotation_of b.0).value now after)))
   binary_sound op a b = alone _ _ _ (λ now after n u k p. let q = both_true (shape_of a.0).plain (shape_of b.0).plain p in
-      binary_value op (facts_of on a.0) (facts_of on b.0) ((sense_of a.0).value now after) ((sense_of b.0).value now after) k (λ x. a.1.value now after n u x q.0) (λ x. b.1.value now after n u x q.1))
+      binary_value op (facts_of on a.0) (facts_of on b.0) ((denotation_of a.0).value now after) ((denotation_of b.0).value now after) k (λ x. a.1.value now after n u x q.0) (λ x. b.1.value now after n u x q.1))
 
-  within_sound : (a : Exprs) (c : Choices) → SoundAs (within_offer (facts_of on a.0) (offer_of on c.0)) (single_shape ((shape_of a.0).plain && (choice_shape c.0).plain)) (single (λ now after. and_then ((sense_of a.0).value now after) (λ v. and_then (choice_allows c.0 now after v) (λ b. Some (Truth b)))))
+  within_sound : (a : Exprs) (c : Choices) → SoundAs (within_choice (facts_of on a.0) (choice_facts_of on c.0)) (single_shape ((shape_of a.0).plain && (choice_shape c.0).plain)) (single (λ now after. and_then ((denotation_of a.0).value now after) (λ v. and_then (choice_allows c.0 now after v) (λ b. Some (Truth b)))))
   within_sound a c = alone _ _ _ (λ now after n u k p. let q = both_true (shape_of a.0).plain (choice_shape c.0).plain p in
-      within_value (facts_of on a.0) (offer_of on c.0) ((sense_of a.0).value now after) (choice_allows c.0 now after) k (λ x. a.1.value now after n u x q.0) (λ x v. c.1.within now after n u x q.1 v))
+      within_value (facts_of on a.0) (choice_facts_of on c.0) ((denotation_of a.0).value now after) (choice_allows c.0 now after) k (λ x. a.1.value now after n u x q.0) (λ x v. c.1.within now after n u x q.1 v))
 
-  pick_sound : (c : Choices) → SoundAs (offered (offer_of on c.0)) (record { plain = false; free = (choice_shape c.0).free }) (record { value = λ now after. None; allows = choice_allows c.0 })
+  pick_sound : (c : Choices) → SoundAs (pick_facts (choice_facts_of on c.0)) (record { plain = false; free = (choice_shape c.0).free }) (record { value = λ now after. None; allows = choice_allows c.0 })
   pick_sound c = record { loose = λ e. cc; value = λ now after n u k p. cc; allows = c.1.allows }
 
-  expr_sound : (y : Expr-F Choices Exprs Branches) → SoundAs (expr_layer on (expr_facts (expr_from y))) (expr_shape_layer (expr_shapes (expr_from y))) (expr_sense (expr_senses (expr_from y)))
+  expr_sound : (y : Expr-F Choices Exprs Branches) → SoundAs (expr_layer on (expr_facts (expr_from y))) (expr_shape_layer (expr_shapes (expr_from y))) (expr_denotation (expr_denotations (expr_from y)))
   expr_sound Expr-F.True = alone truth_facts true (λ now after. Some (Truth true)) (λ now after n u k p. (Truth true, refl, record { sort = (true, refl); serves = λ e. (true, refl) }))
   expr_sound Expr-F.False = alone truth_facts true (λ now after. Some (Truth false)) (λ now after n u k p. (Truth false, refl, record { sort = (false, refl); serves = λ e. (false, refl) }))
   expr_sound (Expr-F.Number m) = alone (number_facts m) true (λ now after. Some (Whole (pos m))) (λ now after n u k p. (Whole (pos m), refl, number_value m k))
@@ -445,27 +446,27 @@ module _ (on : Sorting) where
   expr_sound (Expr-F.Next a) = next_sound a
   expr_sound (Expr-F.Pick c) = pick_sound c
 
-  -- from layers to expressions, choices and branches
-  choice_step : (d : Choice-F Choice Expr Branch) → SoundAsChoice (choice_layer (choice_facts d)) (choice_shape_layer (choice_shapes d)) (choice_sense (choice_senses d)) → SoundChoice (roll-Choice d)
+  -- one layer of the induction
+  choice_step : (d : Choice-F Choice Expr Branch) → SoundAsChoice (choice_layer (choice_facts d)) (choice_shape_layer (choice_shapes d)) (choice_denotation (choice_denotations d)) → SoundChoice (roll-Choice d)
   choice_step d h =
-      subst (λ (x : Offer). SoundAsChoice x (choice_shape (roll-Choice d)) (choice_allows (roll-Choice d))) (sym (fold-roll-Choice Offer Facts Guarded choice_layer (expr_layer on) branch_layer d))
+      subst (λ (x : ChoiceFacts). SoundAsChoice x (choice_shape (roll-Choice d)) (choice_allows (roll-Choice d))) (sym (fold-roll-Choice ChoiceFacts Facts BranchFacts choice_layer (expr_layer on) branch_layer d))
       (subst (λ (x : Shape). SoundAsChoice (choice_layer (choice_facts d)) x (choice_allows (roll-Choice d))) (sym (fold-roll-Choice Shape Shape BranchShape choice_shape_layer expr_shape_layer branch_shape_layer d))
-      (subst (λ (x : Allowed). SoundAsChoice (choice_layer (choice_facts d)) (choice_shape_layer (choice_shapes d)) x) (sym (fold-roll-Choice Allowed Sense BranchSense choice_sense expr_sense branch_sense d)) h))
+      (subst (λ (x : Allowed). SoundAsChoice (choice_layer (choice_facts d)) (choice_shape_layer (choice_shapes d)) x) (sym (fold-roll-Choice Allowed Denotation BranchDenotation choice_denotation expr_denotation branch_denotation d)) h))
 
-  expr_step : (d : Expr-F Choice Expr Branch) → SoundAs (expr_layer on (expr_facts d)) (expr_shape_layer (expr_shapes d)) (expr_sense (expr_senses d)) → SoundExpr (roll-Expr d)
+  expr_step : (d : Expr-F Choice Expr Branch) → SoundAs (expr_layer on (expr_facts d)) (expr_shape_layer (expr_shapes d)) (expr_denotation (expr_denotations d)) → SoundExpr (roll-Expr d)
   expr_step d h =
-      subst (λ (x : Facts). SoundAs x (shape_of (roll-Expr d)) (sense_of (roll-Expr d))) (sym (fold-roll-Expr Offer Facts Guarded choice_layer (expr_layer on) branch_layer d))
-      (subst (λ (x : Shape). SoundAs (expr_layer on (expr_facts d)) x (sense_of (roll-Expr d))) (sym (fold-roll-Expr Shape Shape BranchShape choice_shape_layer expr_shape_layer branch_shape_layer d))
-      (subst (λ (x : Sense). SoundAs (expr_layer on (expr_facts d)) (expr_shape_layer (expr_shapes d)) x) (sym (fold-roll-Expr Allowed Sense BranchSense choice_sense expr_sense branch_sense d)) h))
+      subst (λ (x : Facts). SoundAs x (shape_of (roll-Expr d)) (denotation_of (roll-Expr d))) (sym (fold-roll-Expr ChoiceFacts Facts BranchFacts choice_layer (expr_layer on) branch_layer d))
+      (subst (λ (x : Shape). SoundAs (expr_layer on (expr_facts d)) x (denotation_of (roll-Expr d))) (sym (fold-roll-Expr Shape Shape BranchShape choice_shape_layer expr_shape_layer branch_shape_layer d))
+      (subst (λ (x : Denotation). SoundAs (expr_layer on (expr_facts d)) (expr_shape_layer (expr_shapes d)) x) (sym (fold-roll-Expr Allowed Denotation BranchDenotation choice_denotation expr_denotation branch_denotation d)) h))
 
   branch_step : (x y : Exprs) → SoundBranch (roll-Branch (record { cond = x.0; value = y.0 }))
   branch_step x y =
       let d : Branch-F Choice Expr Branch = record { cond = x.0; value = y.0 } in
-      subst (λ (z : Guarded). SoundAsBranch z (branch_shape (roll-Branch d)) (branch_sense_of (roll-Branch d))) (sym (fold-roll-Branch Offer Facts Guarded choice_layer (expr_layer on) branch_layer d))
-      (subst (λ (z : BranchShape). SoundAsBranch (record { cond = facts_of on x.0; value = facts_of on y.0 }) z (branch_sense_of (roll-Branch d))) (sym (fold-roll-Branch Shape Shape BranchShape choice_shape_layer expr_shape_layer branch_shape_layer d))
-      (subst (λ (z : BranchSense). SoundAsBranch (record { cond = facts_of on x.0; value = facts_of on y.0 }) (record { cond = shape_of x.0; value = shape_of y.0 }) z) (sym (fold-roll-Branch Allowed Sense BranchSense choice_sense expr_sense branch_sense d)) (record { cond = x.1; value = y.1 })))
+      subst (λ (z : BranchFacts). SoundAsBranch z (branch_shape (roll-Branch d)) (branch_denotation_of (roll-Branch d))) (sym (fold-roll-Branch ChoiceFacts Facts BranchFacts choice_layer (expr_layer on) branch_layer d))
+      (subst (λ (z : BranchShape). SoundAsBranch (record { cond = facts_of on x.0; value = facts_of on y.0 }) z (branch_denotation_of (roll-Branch d))) (sym (fold-roll-Branch Shape Shape BranchShape choice_shape_layer expr_shape_layer branch_shape_layer d))
+      (subst (λ (z : BranchDenotation). SoundAsBranch (record { cond = facts_of on x.0; value = facts_of on y.0 }) (record { cond = shape_of x.0; value = shape_of y.0 }) z) (sym (fold-roll-Branch Allowed Denotation BranchDenotation choice_denotation expr_denotation branch_denotation d)) (record { cond = x.1; value = y.1 })))
 
-  -- each expression that keeps the rules has a value of what is known of it
+  -- each expression that keeps the rules has a value that agrees with its facts
   pub sound : (e : Expr) → SoundExpr e
   sound = ind-Expr SoundChoice SoundExpr SoundBranch
       (λ x y e. subst (λ (d : Choice-F Choice Expr Branch). SoundChoice (roll-Choice d)) e (choice_step (choice_from y) (choice_sound y)))

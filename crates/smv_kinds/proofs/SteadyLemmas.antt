@@ -1,15 +1,15 @@
--- An expression whose sort is known keeps all that is known of it where the sorts of more names are known.
+-- The facts of an expression with a known sort are stable where more sorts of names are known.
 use Rattle.std.proofs.Common.{◌≡◌, List, [], ◌∷◌, map, Option, Some, None, refl, sym, ap, ◌∙◌, subst}
 use Rattle.std.specs.List.{fold}
 use Rattle.smv_ast.specs.declared.syntax.Op.{Op}
 use Rattle.smv_ast.specs.declared.syntax.Expr.{Expr, Expr-F, roll-Expr, fold-roll-Expr, map-Expr, ind-Expr}
 use Rattle.smv_ast.specs.declared.syntax.Choice.{Choice, Choice-F, roll-Choice, fold-roll-Choice, map-Choice}
 use Rattle.smv_ast.specs.declared.syntax.Branch.{Branch, Branch-F, roll-Branch, fold-roll-Branch}
-use Rattle.smv_meaning.specs.Least.{Under}
+use Rattle.fixpoint.specs.Fixpoints.{Under}
 use Rattle.smv_kinds.specs.declared.sorts.Sort.{Sort}
 use Rattle.smv_kinds.specs.declared.facts.Facts.{Facts}
-use Rattle.smv_kinds.specs.Sorts.{join_both, binary_sort, truth_sort, beside, negated_sort}
-use Rattle.smv_kinds.specs.Facts.{name_facts, negation_facts, denial_facts, next_facts, binary_facts, parts_sort, case_facts, Offer, Parts, Span, Guarded, Sorting, offered, within_offer, choice_layer, expr_layer, branch_layer, facts_of, offer_of, guarded_of}
+use Rattle.smv_kinds.specs.Sorts.{join_both, binary_sort, truth_sort, if_known, negated_sort}
+use Rattle.smv_kinds.specs.Facts.{name_facts, negation_facts, not_facts, next_facts, binary_facts, parts_sort, case_facts, ChoiceFacts, Parts, Between, BranchFacts, SortEnvironment, pick_facts, within_choice, choice_layer, expr_layer, branch_layer, facts_of, choice_facts_of, branch_facts_of}
 use Rattle.smv_kinds.proofs.PartLemmas.{Each}
 
 -- a sort is known
@@ -19,9 +19,9 @@ IsKnown o = (s : Sort) × (o ≡ Some s)
 unknown : {P : Type 0} → IsKnown None → P
 unknown k = let e = k.1 in cc
 
-pub beside_known : (s t : Option Sort) → IsKnown (beside s t) → IsKnown s × IsKnown t
-beside_known None t k = unknown k
-beside_known (Some a) t k = ((a, refl), k)
+pub if_known_known : (s t : Option Sort) → IsKnown (if_known s t) → IsKnown s × IsKnown t
+if_known_known None t k = unknown k
+if_known_known (Some a) t k = ((a, refl), k)
 
 pub truth_known : (s : Option Sort) → IsKnown (truth_sort s) → IsKnown s
 truth_known None k = unknown k
@@ -41,28 +41,28 @@ join_known None t k = unknown k
 join_known (Some a) None k = unknown k
 join_known (Some a) (Some b) k = ((a, refl), (b, refl))
 
-rest_known : (xs : List Facts) (o : Option Sort) → IsKnown (fold (λ sort a. join_both sort a.sort) o xs) → IsKnown o × Each (λ x. IsKnown x.sort) xs
-rest_known [] o k = (k, tt)
-rest_known (x ∷ xs) o k =
-    let r = rest_known xs (join_both o x.sort) k in
+tail_known : (xs : List Facts) (o : Option Sort) → IsKnown (fold (λ sort a. join_both sort a.sort) o xs) → IsKnown o × Each (λ x. IsKnown x.sort) xs
+tail_known [] o k = (k, tt)
+tail_known (x ∷ xs) o k =
+    let r = tail_known xs (join_both o x.sort) k in
     let j = join_known o x.sort r.0 in
     (j.0, (j.1, r.1))
 
 pub parts_known : (xs : List Facts) → IsKnown (parts_sort xs) → Each (λ x. IsKnown x.sort) xs
 parts_known [] k = tt
-parts_known (x ∷ xs) k = (rest_known (x ∷ xs) x.sort k).1
+parts_known (x ∷ xs) k = (tail_known (x ∷ xs) x.sort k).1
 
-module _ (on on' : Sorting) (under : Under on on') where
-  -- what is known stays
+module _ (on on' : SortEnvironment) (under : Under on on') where
+  -- the facts are stable
   abbrev SteadyExpr : Expr → Type 0
   SteadyExpr e = IsKnown (facts_of on e).sort → facts_of on e ≡ facts_of on' e
 
   abbrev SteadyChoice : Choice → Type 0
-  SteadyChoice c = IsKnown (offered (offer_of on c)).sort → offer_of on c ≡ offer_of on' c
+  SteadyChoice c = IsKnown (pick_facts (choice_facts_of on c)).sort → choice_facts_of on c ≡ choice_facts_of on' c
 
   record SteadyBranch (b : Branch) : Type 0 where
-    cond : IsKnown (guarded_of on b).cond.sort → (guarded_of on b).cond ≡ (guarded_of on' b).cond
-    value : IsKnown (guarded_of on b).value.sort → (guarded_of on b).value ≡ (guarded_of on' b).value
+    cond : IsKnown (branch_facts_of on b).cond.sort → (branch_facts_of on b).cond ≡ (branch_facts_of on' b).cond
+    value : IsKnown (branch_facts_of on b).value.sort → (branch_facts_of on b).value ≡ (branch_facts_of on' b).value
 
   abbrev Exprs : Type 0
   Exprs = (e : Expr) × SteadyExpr e
@@ -73,17 +73,17 @@ module _ (on on' : Sorting) (under : Under on on') where
   abbrev Branches : Type 0
   Branches = (b : Branch) × SteadyBranch b
 
-  -- lists whose members stay
+  -- lists whose members are stable
   module _ {X : Type 0} (f g : X → Facts) where
     list_steady : (xs : List ((x : X) × (IsKnown (f x).sort → f x ≡ g x))) → Each (λ a. IsKnown a.sort) (map f (map (λ x. x.0) xs)) → map f (map (λ x. x.0) xs) ≡ map g (map (λ x. x.0) xs)
     list_steady [] k = refl
     list_steady (x ∷ xs) k = ap (λ a. a ∷ map f (map (λ x. x.0) xs)) (x.1 k.0) ∙ ap (λ more. g x.0 ∷ more) (list_steady xs k.1)
 
-  abbrev choice_facts : Sorting → Choice-F Choice Expr Branch → Choice-F Offer Facts Guarded
-  choice_facts s = map-Choice Choice Expr Branch Offer Facts Guarded (offer_of s) (facts_of s) (guarded_of s)
+  abbrev choice_facts : SortEnvironment → Choice-F Choice Expr Branch → Choice-F ChoiceFacts Facts BranchFacts
+  choice_facts s = map-Choice Choice Expr Branch ChoiceFacts Facts BranchFacts (choice_facts_of s) (facts_of s) (branch_facts_of s)
 
-  abbrev expr_facts : Sorting → Expr-F Choice Expr Branch → Expr-F Offer Facts Guarded
-  expr_facts s = map-Expr Choice Expr Branch Offer Facts Guarded (offer_of s) (facts_of s) (guarded_of s)
+  abbrev expr_facts : SortEnvironment → Expr-F Choice Expr Branch → Expr-F ChoiceFacts Facts BranchFacts
+  expr_facts s = map-Expr Choice Expr Branch ChoiceFacts Facts BranchFacts (choice_facts_of s) (facts_of s) (branch_facts_of s)
 
   abbrev choice_from : Choice-F Choices Exprs Branches → Choice-F Choice Expr Branch
   choice_from = map-Choice Choices Exprs Branches Choice Expr Branch (λ c. c.0) (λ e. e.0) (λ b. b.0)
@@ -91,29 +91,29 @@ module _ (on on' : Sorting) (under : Under on on') where
   abbrev expr_from : Expr-F Choices Exprs Branches → Expr-F Choice Expr Branch
   expr_from = map-Expr Choices Exprs Branches Choice Expr Branch (λ c. c.0) (λ e. e.0) (λ b. b.0)
 
-  choice_steady : (y : Choice-F Choices Exprs Branches) → IsKnown (offered (choice_layer (choice_facts on (choice_from y)))).sort → choice_layer (choice_facts on (choice_from y)) ≡ choice_layer (choice_facts on' (choice_from y))
+  choice_steady : (y : Choice-F Choices Exprs Branches) → IsKnown (pick_facts (choice_layer (choice_facts on (choice_from y)))).sort → choice_layer (choice_facts on (choice_from y)) ≡ choice_layer (choice_facts on' (choice_from y))
   choice_steady (Choice-F.Each xs) k = ap Parts (list_steady (facts_of on) (facts_of on') xs (parts_known (map (facts_of on) (map (λ x. x.0) xs)) k))
   choice_steady (Choice-F.Between low high) k = refl
 
   -- the conditions and the values of a case
-  part_list : (part : Guarded → Facts) (bs : List Branches) → ((b : Branches) → IsKnown (part (guarded_of on b.0)).sort → part (guarded_of on b.0) ≡ part (guarded_of on' b.0)) → Each (λ a. IsKnown a.sort) (map part (map (guarded_of on) (map (λ b. b.0) bs))) →
-      map part (map (guarded_of on) (map (λ b. b.0) bs)) ≡ map part (map (guarded_of on') (map (λ b. b.0) bs))
+  part_list : (part : BranchFacts → Facts) (bs : List Branches) → ((b : Branches) → IsKnown (part (branch_facts_of on b.0)).sort → part (branch_facts_of on b.0) ≡ part (branch_facts_of on' b.0)) → Each (λ a. IsKnown a.sort) (map part (map (branch_facts_of on) (map (λ b. b.0) bs))) →
+      map part (map (branch_facts_of on) (map (λ b. b.0) bs)) ≡ map part (map (branch_facts_of on') (map (λ b. b.0) bs))
   part_list part [] h k = refl
-  part_list part (b ∷ bs) h k = ap (λ a. a ∷ map part (map (guarded_of on) (map (λ b. b.0) bs))) (h b k.0) ∙ ap (λ more. part (guarded_of on' b.0) ∷ more) (part_list part bs h k.1)
+  part_list part (b ∷ bs) h k = ap (λ a. a ∷ map part (map (branch_facts_of on) (map (λ b. b.0) bs))) (h b k.0) ∙ ap (λ more. part (branch_facts_of on' b.0) ∷ more) (part_list part bs h k.1)
 
-  cases_steady : (bs : List Branches) → let c : Sorting → List Facts = (λ s. map (λ g. g.cond) (map (guarded_of s) (map (λ b. b.0) bs))) in let v : Sorting → List Facts = (λ s. map (λ g. g.value) (map (guarded_of s) (map (λ b. b.0) bs))) in
+  cases_steady : (bs : List Branches) → let c : SortEnvironment → List Facts = (λ s. map (λ g. g.cond) (map (branch_facts_of s) (map (λ b. b.0) bs))) in let v : SortEnvironment → List Facts = (λ s. map (λ g. g.value) (map (branch_facts_of s) (map (λ b. b.0) bs))) in
       IsKnown (case_facts (c on) (v on)).sort → case_facts (c on) (v on) ≡ case_facts (c on') (v on')
   cases_steady bs k =
-      let cs : List Facts = map (λ g. g.cond) (map (guarded_of on) (map (λ b. b.0) bs)) in
-      let vs : List Facts = map (λ g. g.value) (map (guarded_of on) (map (λ b. b.0) bs)) in
-      let b = beside_known (parts_sort cs) (parts_sort vs) k in
+      let cs : List Facts = map (λ g. g.cond) (map (branch_facts_of on) (map (λ b. b.0) bs)) in
+      let vs : List Facts = map (λ g. g.value) (map (branch_facts_of on) (map (λ b. b.0) bs)) in
+      let b = if_known_known (parts_sort cs) (parts_sort vs) k in
       let x = part_list (λ g. g.cond) bs (λ b. b.1.cond) (parts_known cs b.0) in
       let y = part_list (λ g. g.value) bs (λ b. b.1.value) (parts_known vs b.1) in
-      ap (λ (z : List Facts). case_facts z vs) x ∙ ap (case_facts (map (λ g. g.cond) (map (guarded_of on') (map (λ b. b.0) bs)))) y
+      ap (λ (z : List Facts). case_facts z vs) x ∙ ap (case_facts (map (λ g. g.cond) (map (branch_facts_of on') (map (λ b. b.0) bs)))) y
 
-  within_known : (a : Facts) (o : Offer) → IsKnown (within_offer a o).sort → IsKnown a.sort × IsKnown (offered o).sort
-  within_known a (Parts parts) k = let b = beside_known a.sort (truth_sort (parts_sort parts)) k in (b.0, truth_known (parts_sort parts) b.1)
-  within_known a (Span low high) k = (truth_known a.sort k, (_, refl))
+  within_known : (a : Facts) (o : ChoiceFacts) → IsKnown (within_choice a o).sort → IsKnown a.sort × IsKnown (pick_facts o).sort
+  within_known a (Parts parts) k = let b = if_known_known a.sort (truth_sort (parts_sort parts)) k in (b.0, truth_known (parts_sort parts) b.1)
+  within_known a (Between low high) k = (truth_known a.sort k, (_, refl))
 
   name_steady : (o q : Option Sort) → ((s : Sort) → o ≡ Some s → q ≡ Some s) → IsKnown o → name_facts o ≡ name_facts q
   name_steady o q u k = ap name_facts (k.1 ∙ sym (u k.0 k.1))
@@ -124,37 +124,37 @@ module _ (on on' : Sorting) (under : Under on on') where
   expr_steady (Expr-F.Number n) k = refl
   expr_steady (Expr-F.Name path) k = name_steady (on path.names) (on' path.names) (under path.names) k
   expr_steady (Expr-F.Neg a) k = ap negation_facts (a.1 (negated_known (facts_of on a.0).sort k))
-  expr_steady (Expr-F.Not a) k = ap denial_facts (a.1 (truth_known (facts_of on a.0).sort k))
+  expr_steady (Expr-F.Not a) k = ap not_facts (a.1 (truth_known (facts_of on a.0).sort k))
   expr_steady (Expr-F.Binary op a b) k =
       let t = both_known op (facts_of on a.0).sort (facts_of on b.0).sort k in
       ap (λ (x : Facts). binary_facts op x (facts_of on b.0)) (a.1 t.0) ∙ ap (binary_facts op (facts_of on' a.0)) (b.1 t.1)
   expr_steady (Expr-F.Within a c) k =
-      let t = within_known (facts_of on a.0) (offer_of on c.0) k in
-      ap (λ (x : Facts). within_offer x (offer_of on c.0)) (a.1 t.0) ∙ ap (within_offer (facts_of on' a.0)) (c.1 t.1)
+      let t = within_known (facts_of on a.0) (choice_facts_of on c.0) k in
+      ap (λ (x : Facts). within_choice x (choice_facts_of on c.0)) (a.1 t.0) ∙ ap (within_choice (facts_of on' a.0)) (c.1 t.1)
   expr_steady (Expr-F.Cases branches) k = cases_steady branches k
   expr_steady (Expr-F.Next a) k = ap next_facts (a.1 k)
-  expr_steady (Expr-F.Pick c) k = ap offered (c.1 k)
+  expr_steady (Expr-F.Pick c) k = ap pick_facts (c.1 k)
 
-  choice_step : (d : Choice-F Choice Expr Branch) → (IsKnown (offered (choice_layer (choice_facts on d))).sort → choice_layer (choice_facts on d) ≡ choice_layer (choice_facts on' d)) → SteadyChoice (roll-Choice d)
+  choice_step : (d : Choice-F Choice Expr Branch) → (IsKnown (pick_facts (choice_layer (choice_facts on d))).sort → choice_layer (choice_facts on d) ≡ choice_layer (choice_facts on' d)) → SteadyChoice (roll-Choice d)
   choice_step d h k =
-      let p = fold-roll-Choice Offer Facts Guarded choice_layer (expr_layer on) branch_layer d in
-      let q = fold-roll-Choice Offer Facts Guarded choice_layer (expr_layer on') branch_layer d in
-      p ∙ (h (subst (λ (x : Offer). IsKnown (offered x).sort) p k) ∙ sym q)
+      let p = fold-roll-Choice ChoiceFacts Facts BranchFacts choice_layer (expr_layer on) branch_layer d in
+      let q = fold-roll-Choice ChoiceFacts Facts BranchFacts choice_layer (expr_layer on') branch_layer d in
+      p ∙ (h (subst (λ (x : ChoiceFacts). IsKnown (pick_facts x).sort) p k) ∙ sym q)
 
   expr_step : (d : Expr-F Choice Expr Branch) → (IsKnown (expr_layer on (expr_facts on d)).sort → expr_layer on (expr_facts on d) ≡ expr_layer on' (expr_facts on' d)) → SteadyExpr (roll-Expr d)
   expr_step d h k =
-      let p = fold-roll-Expr Offer Facts Guarded choice_layer (expr_layer on) branch_layer d in
-      let q = fold-roll-Expr Offer Facts Guarded choice_layer (expr_layer on') branch_layer d in
+      let p = fold-roll-Expr ChoiceFacts Facts BranchFacts choice_layer (expr_layer on) branch_layer d in
+      let q = fold-roll-Expr ChoiceFacts Facts BranchFacts choice_layer (expr_layer on') branch_layer d in
       p ∙ (h (subst (λ (x : Facts). IsKnown x.sort) p k) ∙ sym q)
 
   branch_step : (x y : Exprs) → SteadyBranch (roll-Branch (record { cond = x.0; value = y.0 }))
   branch_step x y =
       let d : Branch-F Choice Expr Branch = record { cond = x.0; value = y.0 } in
-      let p = fold-roll-Branch Offer Facts Guarded choice_layer (expr_layer on) branch_layer d in
-      let q = fold-roll-Branch Offer Facts Guarded choice_layer (expr_layer on') branch_layer d in
+      let p = fold-roll-Branch ChoiceFacts Facts BranchFacts choice_layer (expr_layer on) branch_layer d in
+      let q = fold-roll-Branch ChoiceFacts Facts BranchFacts choice_layer (expr_layer on') branch_layer d in
       record {
-        cond = λ k. ap (λ (g : Guarded). g.cond) p ∙ (x.1 (subst (λ (g : Guarded). IsKnown g.cond.sort) p k) ∙ sym (ap (λ (g : Guarded). g.cond) q));
-        value = λ k. ap (λ (g : Guarded). g.value) p ∙ (y.1 (subst (λ (g : Guarded). IsKnown g.value.sort) p k) ∙ sym (ap (λ (g : Guarded). g.value) q));
+        cond = λ k. ap (λ (g : BranchFacts). g.cond) p ∙ (x.1 (subst (λ (g : BranchFacts). IsKnown g.cond.sort) p k) ∙ sym (ap (λ (g : BranchFacts). g.cond) q));
+        value = λ k. ap (λ (g : BranchFacts). g.value) p ∙ (y.1 (subst (λ (g : BranchFacts). IsKnown g.value.sort) p k) ∙ sym (ap (λ (g : BranchFacts). g.value) q));
       }
 
   pub steady : (e : Expr) → SteadyExpr e

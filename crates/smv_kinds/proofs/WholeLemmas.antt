@@ -1,4 +1,4 @@
--- Where no rule is broken, each name of each instance that has a kind stands for a value of its sort.
+-- Where no rule is broken, each name of each instance that has a kind has a value of its sort.
 use Rattle.std.proofs.Common.{◌≡◌, ℕ, zero, suc, ◌+◌, ◌-◌, ◌≤◌, ◌⊎◌, inl, inr, Bool, true, false, List, [], ◌∷◌, ◌++◌, Option, Some, None, Result, Ok, Err, IfOk, refl, sym, ap, ◌∙◌, subst, arith}
 use Rattle.std.specs.Prelude.{filter, not}
 use Rattle.std.specs.List.{Contains}
@@ -10,27 +10,27 @@ use Rattle.smv_ast.specs.declared.syntax.Expr.TheVariants as expr
 use denote.Hole.Carrier.{roll}
 use Rattle.smv_ast.specs.declared.program.Program.{Program}
 use Rattle.smv_ast.specs.declared.fault.Fault.{Fault}
-use Rattle.smv_meaning.specs.Faults.{TellsFirst}
+use Rattle.smv_meaning.specs.Faults.{ReportsFirst}
 use Rattle.smv_meaning.specs.declared.value.Value.{Value}
 use Rattle.smv_meaning.specs.declared.value.Value.TheVariants.{Symbol as Word}
 use Rattle.smv_meaning.specs.Value.{Name, and_then, truth, all_values}
-use Rattle.smv_meaning.specs.Least.{Under, known, most}
-use Rattle.smv_meaning.specs.Growing.{then_le}
-use Rattle.smv_meaning.specs.StepGrowing.{stand_grows}
-use Rattle.smv_meaning.specs.Paths.{Spot, Meant, IsVariable, IsInstance, IsDefine, IsFormal, IsNothing, walked, stood_for, behind, stand_step, standing, leads}
-use Rattle.smv_meaning.specs.Senses.{Reading}
-use Rattle.smv_meaning.specs.Instances.{Place, meant_at, instances, path_of}
-use Rattle.smv_meaning.specs.Values.{State, Worth, is_symbol, symbol_of, worth_at, reading_by, read_by, worth_of, worth_step, variable_in, reading_in, value_in, allows_in}
+use Rattle.fixpoint.specs.Fixpoints.{Under, known, most}
+use Rattle.smv_meaning.specs.Monotone.{then_le}
+use Rattle.smv_meaning.specs.StepMonotone.{alias_step_monotone}
+use Rattle.smv_meaning.specs.Paths.{QualifiedName, Binding, IsVariable, IsInstance, IsDefine, IsFormal, IsNothing, walked, aliased, alias_of_binding, alias_step, aliases, resolve}
+use Rattle.smv_meaning.specs.Denotations.{Environment}
+use Rattle.smv_meaning.specs.Instances.{Instance, binding_at, instances, path_of}
+use Rattle.smv_meaning.specs.Values.{State, Valuation, is_symbol, symbol_of, value_at_path, environment_by, read_by, value_of_binding, valuation_step, variable_in, environment_in, value_in, allows_in}
 use Rattle.smv_meaning.specs.Runs.{IsState, variables}
 use Rattle.smv_kinds.specs.declared.sorts.Sort.{Sort}
-use Rattle.smv_kinds.specs.declared.sorts.Sort.TheVariants.{Nothing}
+use Rattle.smv_kinds.specs.declared.sorts.Sort.TheVariants.{Boolean, Number, Symbol, Alias, Nothing}
 use Rattle.smv_kinds.specs.declared.facts.Facts.{Facts}
 use Rattle.smv_kinds.specs.declared.pass.Pass.TheVariants as pass
-use Rattle.smv_kinds.specs.Sorts.{has_kind, is_small, type_sort}
-use Rattle.smv_kinds.specs.Facts.{Sorting, facts_of, name_facts, Offer, Guarded, choice_layer, expr_layer, branch_layer}
-use Rattle.smv_kinds.specs.Readings.{Sorts, variable_sort, word_sort, symbol_sort, sort_at, sorting_by, sort_of, sort_step, variable_at, sorting_in, facts_in, is_instance, target_in}
-use Rattle.smv_kinds.specs.Growing.{sort_of_grows}
-use Rattle.smv_kinds.specs.Asks.{Ask, Typed, Given, Assigned, Defined, Constrained, Item, actual_keeps, assignable}
+use Rattle.smv_kinds.specs.Sorts.{has_kind, is_small, defined_sort, type_sort}
+use Rattle.smv_kinds.specs.Facts.{SortEnvironment, facts_of, name_facts, ChoiceFacts, BranchFacts, choice_layer, expr_layer, branch_layer}
+use Rattle.smv_kinds.specs.SortsOfNames.{Sorts, variable_sort, word_sort, symbol_sort, sort_at, sorting_by, sort_of, sort_step, variable_at, sorting_in, facts_in, is_instance, target_in}
+use Rattle.smv_kinds.specs.Monotone.{sort_of_monotone}
+use Rattle.smv_kinds.specs.ItemRules.{ItemContent, Typed, Given, Assigned, Defined, Constrained, Item, actual_keeps, assignable}
 use Rattle.smv_kinds.specs.Rules.{keeps_in, kinds_fault}
 use Rattle.smv_kinds.specs.Parts.{parts_below}
 use Rattle.smv_kinds.specs.Soundness.{Fits, FitsKnown, IsKept, Meets, Allows, is_shaped, AreShaped, HasValues, IsDefined, IsSound, shape_of, value_expressions}
@@ -41,164 +41,180 @@ use Rattle.smv_kinds.proofs.SteadyLemmas.{steady}
 use Rattle.smv_kinds.proofs.TypeLemmas.{type_fits}
 use Rattle.smv_kinds.proofs.InnerLemmas.{Kept, part_kept}
 use Rattle.smv_kinds.proofs.MemberLemmas.{In, in_of, all_in, from_filter}
-use Rattle.smv_kinds.proofs.ItemLemmas.{items_at, define_item, variable_type, variable_in as variable_among, formal_outer, stood, then_some, leads_in, item_kept, item_shaped, all_true}
+use Rattle.smv_kinds.proofs.ItemLemmas.{items_at, define_item, variable_type, variable_in as variable_among, formal_outer, aliases_after, then_some, resolves_in, item_kept, item_shaped, all_true}
 
 not_both : (b : Bool) → not b ≡ true → b ≡ true → ⊥
 not_both true h k = cc
 not_both false h k = cc
 
--- ---- what is known in fewer turns is known in more
+-- ---- more iterations
 
-module _ {K A : Type 0} (step : (K → Option A) → K → Option A) (grows : (s t : K → Option A) → Under s t → Under (step s) (step t)) where
+module _ {K A : Type 0} (step : (K → Option A) → K → Option A) (monotone : (s t : K → Option A) → Under s t → Under (step s) (step t)) where
   known_next : (t : ℕ) → Under (known step t) (known step (suc t))
   known_next zero k a e = cc
-  known_next (suc t) k a e = grows (known step t) (known step (suc t)) (known_next t) k a e
+  known_next (suc t) k a e = monotone (known step t) (known step (suc t)) (known_next t) k a e
 
   known_more : (t n : ℕ) → Under (known step t) (known step (n + t))
   known_more t zero k a e = let s : t ≡ 0 + t = omega arith in subst (λ (n : ℕ). known step n k ≡ Some a) s e
   known_more t (suc n) k a e = let s : suc (n + t) ≡ suc n + t = omega arith in subst (λ (n : ℕ). known step n k ≡ Some a) s (known_next (n + t) k a (known_more t n k a e))
 
-  pub known_least : (t u : ℕ) → t ≤ u → Under (known step t) (known step u)
-  known_least t u h k a e = let s : (u - t) + t ≡ u = omega arith in subst (λ (n : ℕ). known step n k ≡ Some a) s (known_more t (u - t) k a e)
+  pub known_fixpoint : (t u : ℕ) → t ≤ u → Under (known step t) (known step u)
+  known_fixpoint t u h k a e = let s : (u - t) + t ≡ u = omega arith in subst (λ (n : ℕ). known step n k ≡ Some a) s (known_more t (u - t) k a e)
 
 -- the facts of a path
-pub name_is : (on : Sorting) (path : Path) → facts_of on (expr.Name path) ≡ name_facts (on path.names)
+pub name_is : (on : SortEnvironment) (path : Path) → facts_of on (expr.Name path) ≡ name_facts (on path.names)
 unfolding X.roll-Expr roll
-name_is on path = fold-roll-Expr Offer Facts Guarded choice_layer (expr_layer on) branch_layer (Expr-F.Name path)
+name_is on path = fold-roll-Expr ChoiceFacts Facts BranchFacts choice_layer (expr_layer on) branch_layer (Expr-F.Name path)
 
 module _ (program : Program) where
-  abbrev by_name : Sorts Place → Spot Place → Meant Place → Option Sort
-  by_name = sort_of (meant_at program) (variable_at program) (symbol_sort program)
+  abbrev by_name : Sorts Instance → QualifiedName Instance → Binding Instance → Option Sort
+  by_name = sort_of (binding_at program) (variable_at program) (symbol_sort program)
 
-  -- the sorts of names, and of paths, after so many turns
-  abbrev sorted : ℕ → Sorts Place
-  sorted = known (sort_step (meant_at program) (variable_at program) (symbol_sort program))
+  -- the sorts of names and of paths after so many iterations
+  abbrev sorted : ℕ → Sorts Instance
+  sorted = known (sort_step (binding_at program) (variable_at program) (symbol_sort program))
 
-  abbrev sorting : ℕ → Place → Sorting
-  sorting t = sorting_by (meant_at program) (variable_at program) (symbol_sort program) (sorted t)
+  abbrev sorting : ℕ → Instance → SortEnvironment
+  sorting t = sorting_by (binding_at program) (variable_at program) (symbol_sort program) (sorted t)
 
-  sort_grows : (s t : Sorts Place) → Under s t → Under (sort_step (meant_at program) (variable_at program) (symbol_sort program) s) (sort_step (meant_at program) (variable_at program) (symbol_sort program) t)
-  sort_grows s t u spot = then_le (meant_at program spot) (meant_at program spot) (by_name s spot) (by_name t spot) (λ m e. e) (sort_of_grows (meant_at program) (variable_at program) (symbol_sort program) s t u spot)
+  sort_monotone : (s t : Sorts Instance) → Under s t → Under (sort_step (binding_at program) (variable_at program) (symbol_sort program) s) (sort_step (binding_at program) (variable_at program) (symbol_sort program) t)
+  sort_monotone s t u qualified = then_le (binding_at program qualified) (binding_at program qualified) (by_name s qualified) (by_name t qualified) (λ m e. e) (sort_of_monotone (binding_at program) (variable_at program) (symbol_sort program) s t u qualified)
 
   sorted_under : (t : ℕ) → t ≤ most → Under (sorted t) (sorted most)
-  sorted_under t h = known_least _ sort_grows t most h
+  sorted_under t h = known_fixpoint _ sort_monotone t most h
 
-  sorting_under : (t : ℕ) (place : Place) → t ≤ most → Under (sorting t place) (sorting most place)
-  sorting_under t place h path s e = at (leads (meant_at program) place path) e
+  sorting_under : (t : ℕ) (instance : Instance) → t ≤ most → Under (sorting t instance) (sorting most instance)
+  sorting_under t instance h path s e = at (resolve (binding_at program) instance path) e
     where
-      at : (o : Option (Spot Place)) → sort_at (symbol_sort program) (sorted t) path o ≡ Some s → sort_at (symbol_sort program) (sorted most) path o ≡ Some s
+      at : (o : Option (QualifiedName Instance)) → sort_at (symbol_sort program) (sorted t) path o ≡ Some s → sort_at (symbol_sort program) (sorted most) path o ≡ Some s
       at None e = e
-      at (Some spot) e = sorted_under t h spot s e
+      at (Some qualified) e = sorted_under t h qualified s e
 
-  stood_under : (u : ℕ) → u ≤ most → Under (stood program u) (standing (meant_at program))
-  stood_under u h = known_least (stand_step (meant_at program)) (stand_grows (meant_at program)) u most h
+  stood_under : (u : ℕ) → u ≤ most → Under (aliases_after program u) (aliases (binding_at program))
+  stood_under u h = known_fixpoint (alias_step (binding_at program)) (alias_step_monotone (binding_at program)) u most h
 
-  -- ---- what stands for an instance has no kind
+  -- ---- aliases of instances have no kind
 
-  meant_there : (u : ℕ) (spot : Spot Place) (p : Place) → stood program u spot ≡ Some p → (m : Meant Place) × (meant_at program spot ≡ Some m)
-  meant_there zero spot p e = cc
-  meant_there (suc u) spot p e = let t = then_some program (meant_at program spot) (behind (stood program u)) p e in (t.0, t.1)
+  binding_there : (u : ℕ) (qualified : QualifiedName Instance) (p : Instance) → aliases_after program u qualified ≡ Some p → (m : Binding Instance) × (binding_at program qualified ≡ Some m)
+  binding_there zero qualified p e = cc
+  binding_there (suc u) qualified p e = let t = then_some program (binding_at program qualified) (alias_of_binding (aliases_after program u)) p e in (t.0, t.1)
 
-  -- a path that is walked leads to a name that stands for its end
-  record LeadsTo (u : ℕ) (place : Place) (path : List Name) (p : Place) : Type 0 where
-    spot : Spot Place
-    leads_is : leads (meant_at program) place path ≡ Some spot
-    stands : stood program u spot ≡ Some p
+  -- a path whose prefix resolves to an instance resolves to a name that is an alias of the last
+  -- instance
+  record ResolvesTo (u : ℕ) (instance : Instance) (path : List Name) (p : Instance) : Type 0 where
+    qualified : QualifiedName Instance
+    resolve_is : resolve (binding_at program) instance path ≡ Some qualified
+    instance_at : aliases_after program u qualified ≡ Some p
 
-  walk_leads : (u : ℕ) → u ≤ most → (rest : List Name) (place : Place) (name : Name) (p : Place) → walked (stood program u) place (name ∷ rest) ≡ Some p → LeadsTo u place (name ∷ rest) p
-  walk_leads u h [] place name p e =
-      let spot : Spot Place = record { place = place; name = name } in
-      let t = then_some program (stood program u spot) (λ q. Some q) p e in
-      let s : stood program u spot ≡ Some p = t.1 ∙ t.2 in
-      let m = meant_there u spot p s in
-      record { spot = spot; leads_is = ap (λ (o : Option (Meant Place)). and_then o (λ m. Some spot)) m.1; stands = s }
-  walk_leads u h (next ∷ more) place name p e =
-      let spot : Spot Place = record { place = place; name = name } in
-      let t = then_some program (stood program u spot) (λ q. walked (stood program u) q (next ∷ more)) p e in
-      let r = walk_leads u h more t.0 next p t.2 in
-      record { spot = r.spot; leads_is = ap (λ (o : Option Place). and_then o (λ p. leads (meant_at program) p (next ∷ more))) (stood_under u h spot t.0 t.1) ∙ r.leads_is; stands = r.stands }
+  walk_resolves : (u : ℕ) → u ≤ most → (tail : List Name) (instance : Instance) (name : Name) (p : Instance) → walked (aliases_after program u) instance (name ∷ tail) ≡ Some p → ResolvesTo u instance (name ∷ tail) p
+  walk_resolves u h [] instance name p e =
+      let qualified : QualifiedName Instance = record { instance = instance; name = name } in
+      let t = then_some program (aliases_after program u qualified) (λ q. Some q) p e in
+      let s : aliases_after program u qualified ≡ Some p = t.1 ∙ t.2 in
+      let m = binding_there u qualified p s in
+      record { qualified = qualified; resolve_is = ap (λ (o : Option (Binding Instance)). and_then o (λ m. Some qualified)) m.1; instance_at = s }
+  walk_resolves u h (next ∷ more) instance name p e =
+      let qualified : QualifiedName Instance = record { instance = instance; name = name } in
+      let t = then_some program (aliases_after program u qualified) (λ q. walked (aliases_after program u) q (next ∷ more)) p e in
+      let r = walk_resolves u h more t.0 next p t.2 in
+      record { qualified = r.qualified; resolve_is = ap (λ (o : Option Instance). and_then o (λ p. resolve (binding_at program) p (next ∷ more))) (stood_under u h qualified t.0 t.1) ∙ r.resolve_is; instance_at = r.instance_at }
 
   abbrev NoKind : ℕ → ℕ → Type 0
-  NoKind u t = (spot : Spot Place) (p : Place) (x : Sort) → stood program u spot ≡ Some p → sorted t spot ≡ Some x → x ≡ Nothing
+  NoKind u t = (qualified : QualifiedName Instance) (p : Instance) (x : Sort) → aliases_after program u qualified ≡ Some p → sorted t qualified ≡ Some x → x ≡ Nothing
 
-  path_nothing : (u t : ℕ) → u ≤ most → NoKind u t → (path : List Name) (place p : Place) (x : Sort) → walked (stood program u) place path ≡ Some p → sorting t place path ≡ Some x → x ≡ Nothing
-  path_nothing u t h none [] place p x e f = cc
-  path_nothing u t h none (name ∷ rest) place p x e f =
-      let r = walk_leads u h rest place name p e in
-      none r.spot p x r.stands (ap (sort_at (symbol_sort program) (sorted t) (name ∷ rest)) (sym r.leads_is) ∙ f)
+  path_nothing : (u t : ℕ) → u ≤ most → NoKind u t → (path : List Name) (instance p : Instance) (x : Sort) → walked (aliases_after program u) instance path ≡ Some p → sorting t instance path ≡ Some x → x ≡ Nothing
+  path_nothing u t h none [] instance p x e f = cc
+  path_nothing u t h none (name ∷ tail) instance p x e f =
+      let r = walk_resolves u h tail instance name p e in
+      none r.qualified p x r.instance_at (ap (sort_at (symbol_sort program) (sorted t) (name ∷ tail)) (sym r.resolve_is) ∙ f)
 
-  expr_nothing : (u t : ℕ) → u ≤ most → NoKind u t → (e : Expr) (place p : Place) (x : Sort) → stood_for (stood program u) place e ≡ Some p → (facts_of (sorting t place) e).sort ≡ Some x → x ≡ Nothing
-  expr_nothing u t h none (expr.Name path) place p x e f = path_nothing u t h none path.names place p x e (ap (λ (a : Facts). a.sort) (sym (name_is (sorting t place) path)) ∙ f)
-  expr_nothing u t h none _ place p x e f = cc
+  expr_nothing : (u t : ℕ) → u ≤ most → NoKind u t → (e : Expr) (instance p : Instance) (x : Sort) → aliased (aliases_after program u) instance e ≡ Some p → (facts_of (sorting t instance) e).sort ≡ Some x → x ≡ Nothing
+  expr_nothing u t h none (expr.Name path) instance p x e f = path_nothing u t h none path.names instance p x e (ap (λ (a : Facts). a.sort) (sym (name_is (sorting t instance) path)) ∙ f)
+  expr_nothing u t h none _ instance p x e f = cc
 
   no_kind : (u t : ℕ) → u ≤ most → NoKind u t
-  no_kind zero t h spot p x e f = cc
-  no_kind (suc u) zero h spot p x e f = cc
-  no_kind (suc u) (suc t) h spot p x e f =
-      let a = then_some program (meant_at program spot) (behind (stood program u)) p e in
-      let b = then_some program (meant_at program spot) (by_name (sorted t) spot) x f in
+  no_kind zero t h qualified p x e f = cc
+  no_kind (suc u) zero h qualified p x e f = cc
+  no_kind (suc u) (suc t) h qualified p x e f =
+      let a = then_some program (binding_at program qualified) (alias_of_binding (aliases_after program u)) p e in
+      let b = then_some program (binding_at program qualified) (by_name (sorted t) qualified) x f in
       let same : a.0 ≡ b.0 = (let g : Some a.0 ≡ Some b.0 = sym a.1 ∙ b.1 in cc) in
-      at a.0 a.2 (ap (by_name (sorted t) spot) same ∙ b.2) (no_kind u t (omega arith))
+      at a.0 a.2 (ap (by_name (sorted t) qualified) same ∙ b.2) (no_kind u t (omega arith))
     where
-      at : (m : Meant Place) → behind (stood program u) m ≡ Some p → by_name (sorted t) spot m ≡ Some x → NoKind u t → x ≡ Nothing
+      at : (m : Binding Instance) → alias_of_binding (aliases_after program u) m ≡ Some p → by_name (sorted t) qualified m ≡ Some x → NoKind u t → x ≡ Nothing
       at IsVariable e f none = cc
       at (IsInstance q) e f none = cc
       at (IsDefine right) e f none = cc
       at (IsFormal outer actual) e f none = expr_nothing u t (omega arith) none actual outer p x e f
       at IsNothing e f none = cc
 
-  -- ---- what names stand for
+  -- ---- definitions
+
+  -- the sort of the right side of a definition
+  defined_is : (o : Option Sort) (x : Sort) → defined_sort o ≡ Some x → (y : Sort) × (o ≡ Some y) × (defined_sort (Some y) ≡ Some x)
+  defined_is None x e = cc
+  defined_is (Some y) x e = (y, refl, e)
+
+  -- a value of the right side is one of the definition
+  fits_defined : (x y : Sort) (v : Value) → defined_sort (Some y) ≡ Some x → Fits y v → Fits x v
+  fits_defined x Boolean v e h = let g : Boolean ≡ x = (cc) in subst (λ (z : Sort). Fits z v) g h
+  fits_defined x (Number i) v e h = let g : Number i ≡ x = (cc) in subst (λ (z : Sort). Fits z v) g h
+  fits_defined x Symbol v e h = let g : Symbol ≡ x = (cc) in subst (λ (z : Sort). Fits z v) g h
+  fits_defined x Alias v e h = absurd h
+  fits_defined x Nothing v e h = absurd h
+
+  -- ---- values of names
 
   module _ (none : kinds_fault program ≡ None) (shaped : AreShaped program) where
-    -- the right side of a DEFINE keeps the rules
-    right_kept : (place : Place) (right : Expr) → In place (instances program) → (item : Item) → In item (items_at program place) → item.ask ≡ Defined right → IsKept (facts_in program place right) × ((shape_of right).plain ≡ true)
-    right_kept place right i item j e = (
+    -- the right side of a definition keeps the rules
+    right_kept : (instance : Instance) (right : Expr) → In instance (instances program) → (item : Item) → In item (items_at program instance) → item.content ≡ Defined right → IsKept (facts_in program instance right) × ((shape_of right).plain ≡ true)
+    right_kept instance right i item j e = (
       record {
-        kinds = subst (λ (a : Ask). keeps_in program pass.Kinds place a ≡ true) e (item_kept program none pass.Kinds place item i j);
-        small = subst (λ (a : Ask). keeps_in program pass.Widths place a ≡ true) e (item_kept program none pass.Widths place item i j);
-        mods = subst (λ (a : Ask). keeps_in program pass.Mods place a ≡ true) e (item_kept program none pass.Mods place item i j);
+        kinds = subst (λ (a : ItemContent). keeps_in program pass.Kinds instance a ≡ true) e (item_kept program none pass.Kinds instance item i j);
+        small = subst (λ (a : ItemContent). keeps_in program pass.Magnitudes instance a ≡ true) e (item_kept program none pass.Magnitudes instance item i j);
+        mods = subst (λ (a : ItemContent). keeps_in program pass.Mods instance a ≡ true) e (item_kept program none pass.Mods instance item i j);
       },
-      subst (λ (a : Ask). is_shaped a ≡ true) e (item_shaped program shaped place item i j),
+      subst (λ (a : ItemContent). is_shaped a ≡ true) e (item_shaped program shaped instance item i j),
     )
 
-    -- an actual keeps the rules, or stands for an instance
-    record ActualKept (place : Place) (actual : Expr) : Type 0 where
-      kinds : (is_instance program place actual ≡ true) ⊎ ((facts_in program place actual).kinds ≡ true)
-      small : (facts_in program place actual).small ≡ true
-      mods : (facts_in program place actual).mods ≡ true
+    -- an actual keeps the rules, or denotes an instance
+    record ActualKept (instance : Instance) (actual : Expr) : Type 0 where
+      kinds : (is_instance program instance actual ≡ true) ⊎ ((facts_in program instance actual).kinds ≡ true)
+      small : (facts_in program instance actual).small ≡ true
+      mods : (facts_in program instance actual).mods ≡ true
       plain : (shape_of actual).plain ≡ true
 
-    given_kept : (place : Place) (actuals : List Expr) (actual : Expr) → In actual actuals → keeps_in program pass.Kinds place (Given actuals) ≡ true → keeps_in program pass.Widths place (Given actuals) ≡ true → keeps_in program pass.Mods place (Given actuals) ≡ true → is_shaped (Given actuals) ≡ true →
-        ActualKept place actual
-    given_kept place actuals actual k a b c d = record {
-      kinds = either_true (is_instance program place actual) (facts_in program place actual).kinds (all_true program (λ x. actual_keeps pass.Kinds (is_instance program place x) (facts_in program place x)) actuals actual a k);
-      small = all_true program (λ x. actual_keeps pass.Widths (is_instance program place x) (facts_in program place x)) actuals actual b k;
-      mods = all_true program (λ x. actual_keeps pass.Mods (is_instance program place x) (facts_in program place x)) actuals actual c k;
+    given_kept : (instance : Instance) (actuals : List Expr) (actual : Expr) → In actual actuals → keeps_in program pass.Kinds instance (Given actuals) ≡ true → keeps_in program pass.Magnitudes instance (Given actuals) ≡ true → keeps_in program pass.Mods instance (Given actuals) ≡ true → is_shaped (Given actuals) ≡ true →
+        ActualKept instance actual
+    given_kept instance actuals actual k a b c d = record {
+      kinds = either_true (is_instance program instance actual) (facts_in program instance actual).kinds (all_true program (λ x. actual_keeps pass.Kinds (is_instance program instance x) (facts_in program instance x)) actuals actual a k);
+      small = all_true program (λ x. actual_keeps pass.Magnitudes (is_instance program instance x) (facts_in program instance x)) actuals actual b k;
+      mods = all_true program (λ x. actual_keeps pass.Mods (is_instance program instance x) (facts_in program instance x)) actuals actual c k;
       plain = all_true program (λ x. (shape_of x).plain) actuals actual d k;
     }
 
-    actual_kept : (place : Place) (actuals : List Expr) (actual : Expr) → In place (instances program) → In actual actuals → (item : Item) → In item (items_at program place) → item.ask ≡ Given actuals → ActualKept place actual
-    actual_kept place actuals actual i k item j e =
-        given_kept place actuals actual k (subst (λ (a : Ask). keeps_in program pass.Kinds place a ≡ true) e (item_kept program none pass.Kinds place item i j))
-        (subst (λ (a : Ask). keeps_in program pass.Widths place a ≡ true) e (item_kept program none pass.Widths place item i j))
-        (subst (λ (a : Ask). keeps_in program pass.Mods place a ≡ true) e (item_kept program none pass.Mods place item i j))
-        (subst (λ (a : Ask). is_shaped a ≡ true) e (item_shaped program shaped place item i j))
+    actual_kept : (instance : Instance) (actuals : List Expr) (actual : Expr) → In instance (instances program) → In actual actuals → (item : Item) → In item (items_at program instance) → item.content ≡ Given actuals → ActualKept instance actual
+    actual_kept instance actuals actual i k item j e =
+        given_kept instance actuals actual k (subst (λ (a : ItemContent). keeps_in program pass.Kinds instance a ≡ true) e (item_kept program none pass.Kinds instance item i j))
+        (subst (λ (a : ItemContent). keeps_in program pass.Magnitudes instance a ≡ true) e (item_kept program none pass.Magnitudes instance item i j))
+        (subst (λ (a : ItemContent). keeps_in program pass.Mods instance a ≡ true) e (item_kept program none pass.Mods instance item i j))
+        (subst (λ (a : ItemContent). is_shaped a ≡ true) e (item_shaped program shaped instance item i j))
 
-    instance_of : (o : Option Place) → is_some o ≡ true → (p : Place) × (o ≡ Some p)
+    instance_of : (o : Option Instance) → is_some o ≡ true → (p : Instance) × (o ≡ Some p)
     instance_of None e = cc
     instance_of (Some p) e = (p, refl)
 
     module _ (s : State) (typed : IsState program s) where
-      -- what names, and paths, are worth after so many turns
-      abbrev worthed : ℕ → Worth Place
-      worthed = known (worth_step (meant_at program) (symbol_of program) (variable_in s))
+      -- the values of names and of paths after so many iterations
+      abbrev worthed : ℕ → Valuation Instance
+      worthed = known (valuation_step (binding_at program) (symbol_of program) (variable_in s))
 
-      abbrev reading : ℕ → Place → Reading
-      reading t place = reading_by (meant_at program) (symbol_of program) (worthed t) place
+      abbrev environment : ℕ → Instance → Environment
+      environment t instance = environment_by (binding_at program) (symbol_of program) (worthed t) instance
 
-      -- a name that has a kind stands for a value of its sort
-      abbrev Stands : ℕ → Type 0
-      Stands t = (spot : Spot Place) (x : Sort) → In spot.place (instances program) → sorted t spot ≡ Some x → has_kind (Some x) ≡ true → is_small (Some x) ≡ true → (v : Value) × (worthed t spot ≡ Some v) × Fits x v
+      -- a name that has a kind has a value of its sort
+      abbrev HasValueOfSort : ℕ → Type 0
+      HasValueOfSort t = (qualified : QualifiedName Instance) (x : Sort) → In qualified.instance (instances program) → sorted t qualified ≡ Some x → has_kind (Some x) ≡ true → is_small (Some x) ≡ true → (v : Value) × (worthed t qualified ≡ Some v) × Fits x v
 
       symbol_agrees : (path : List Name) → has_kind (symbol_sort program path) ≡ true → (v : Value) × (symbol_of program path ≡ Some v) × FitsKnown (symbol_sort program path) v
       symbol_agrees [] h = cc
@@ -209,164 +225,167 @@ module _ (program : Program) where
           at false h = cc
       symbol_agrees (name ∷ next ∷ more) h = cc
 
-      agrees : (t : ℕ) → Stands t → (place : Place) → In place (instances program) → Agrees (sorting t place) (reading t place)
-      agrees t has place i path kind small = at (leads (meant_at program) place path) refl kind small
+      agrees : (t : ℕ) → HasValueOfSort t → (instance : Instance) → In instance (instances program) → Agrees (sorting t instance) (environment t instance)
+      agrees t has instance i path kind small = at (resolve (binding_at program) instance path) refl kind small
         where
-          told : (spot : Spot Place) → In spot.place (instances program) → (o : Option Sort) → sorted t spot ≡ o → has_kind o ≡ true → is_small o ≡ true → (v : Value) × (worthed t spot ≡ Some v) × FitsKnown o v
-          told spot i None e k m = cc
-          told spot i (Some x) e k m = has spot x i e k m
+          known_of : (qualified : QualifiedName Instance) → In qualified.instance (instances program) → (o : Option Sort) → sorted t qualified ≡ o → has_kind o ≡ true → is_small o ≡ true → (v : Value) × (worthed t qualified ≡ Some v) × FitsKnown o v
+          known_of qualified i None e k m = cc
+          known_of qualified i (Some x) e k m = has qualified x i e k m
 
-          at : (o : Option (Spot Place)) → leads (meant_at program) place path ≡ o → has_kind (sort_at (symbol_sort program) (sorted t) path o) ≡ true → is_small (sort_at (symbol_sort program) (sorted t) path o) ≡ true →
-              (v : Value) × (worth_at (symbol_of program) (worthed t) path o ≡ Some v) × FitsKnown (sort_at (symbol_sort program) (sorted t) path o) v
+          at : (o : Option (QualifiedName Instance)) → resolve (binding_at program) instance path ≡ o → has_kind (sort_at (symbol_sort program) (sorted t) path o) ≡ true → is_small (sort_at (symbol_sort program) (sorted t) path o) ≡ true →
+              (v : Value) × (value_at_path (symbol_of program) (worthed t) path o ≡ Some v) × FitsKnown (sort_at (symbol_sort program) (sorted t) path o) v
           at None e k m = symbol_agrees path k
-          at (Some spot) e k m = told spot (leads_in program path place spot i e) (sorted t spot) refl k m
+          at (Some qualified) e k m = known_of qualified (resolves_in program path instance qualified i e) (sorted t qualified) refl k m
 
-      -- an expression that is read where it stands
-      read_stands : (t : ℕ) → t ≤ most → Stands t → (place : Place) (e : Expr) (x : Sort) → In place (instances program) → IsKept (facts_in program place e) → (shape_of e).plain ≡ true → (facts_of (sorting t place) e).sort ≡ Some x →
-          (v : Value) × (read_by (meant_at program) (symbol_of program) (worthed t) place e ≡ Some v) × Fits x v
-      read_stands t h has place e x i k p f =
-          let same : facts_of (sorting t place) e ≡ facts_in program place e = steady (sorting t place) (sorting most place) (sorting_under t place h) e (x, f) in
-          let kept : IsKept (facts_of (sorting t place) e) = subst IsKept (sym same) k in
-          let a = agrees t has place i in
-          let m = (sound (sorting t place) e).value (reading t place) (reading t place) a a kept p in
+      -- an expression that is read in its own instance
+      read_alias : (t : ℕ) → t ≤ most → HasValueOfSort t → (instance : Instance) (e : Expr) (x : Sort) → In instance (instances program) → IsKept (facts_in program instance e) → (shape_of e).plain ≡ true → (facts_of (sorting t instance) e).sort ≡ Some x →
+          (v : Value) × (read_by (binding_at program) (symbol_of program) (worthed t) instance e ≡ Some v) × Fits x v
+      read_alias t h has instance e x i k p f =
+          let same : facts_of (sorting t instance) e ≡ facts_in program instance e = steady (sorting t instance) (sorting most instance) (sorting_under t instance h) e (x, f) in
+          let kept : IsKept (facts_of (sorting t instance) e) = subst IsKept (sym same) k in
+          let a = agrees t has instance i in
+          let m = (sound (sorting t instance) e).value (environment t instance) (environment t instance) a a kept p in
           (m.0, m.1, subst (λ (o : Option Sort). FitsKnown o m.0) f m.2.sort)
 
-      actual_stands : (t : ℕ) → t ≤ most → Stands t → (outer : Place) (actual : Expr) (x : Sort) → In outer (instances program) → ActualKept outer actual → has_kind (Some x) ≡ true → (facts_of (sorting t outer) actual).sort ≡ Some x →
-          (v : Value) × (read_by (meant_at program) (symbol_of program) (worthed t) outer actual ≡ Some v) × Fits x v
-      actual_stands t h has outer actual x i k kind f = elim k.kinds [
-        | inl e ↦ let p = instance_of (stood_for (standing (meant_at program)) outer actual) e in
+      actual_alias : (t : ℕ) → t ≤ most → HasValueOfSort t → (outer : Instance) (actual : Expr) (x : Sort) → In outer (instances program) → ActualKept outer actual → has_kind (Some x) ≡ true → (facts_of (sorting t outer) actual).sort ≡ Some x →
+          (v : Value) × (read_by (binding_at program) (symbol_of program) (worthed t) outer actual ≡ Some v) × Fits x v
+      actual_alias t h has outer actual x i k kind f = elim k.kinds [
+        | inl e ↦ let p = instance_of (aliased (aliases (binding_at program)) outer actual) e in
             let g = expr_nothing most t (omega arith) (no_kind most t (omega arith)) actual outer p.0 x p.1 f in
             absurd (never (subst (λ (y : Sort). has_kind (Some y) ≡ true) g kind))
-        | inr e ↦ read_stands t h has outer actual x i (record { kinds = e; small = k.small; mods = k.mods }) k.plain f
+        | inr e ↦ read_alias t h has outer actual x i (record { kinds = e; small = k.small; mods = k.mods }) k.plain f
       ]
         where
           never : false ≡ true → ⊥
           never e = cc
 
-      variable_stands : (spot : Spot Place) (x : Sort) → In spot.place (instances program) → meant_at program spot ≡ Some IsVariable → variable_at program spot ≡ x → is_small (Some x) ≡ true → (v : Value) × (variable_in s spot ≡ Some v) × Fits x v
-      variable_stands spot x i m e small =
-          let t = variable_type program spot m in
-          let among = variable_among program spot.place spot.name t.0 i t.1 in
-          let has = all_in (λ x. (v : Value) × (s x.path ≡ Some v) × Contains (all_values x.type) v) (variables program) (record { path = path_of spot.place ++ spot.name ∷ []; type = t.0 }) typed among in
+      variable_alias : (qualified : QualifiedName Instance) (x : Sort) → In qualified.instance (instances program) → binding_at program qualified ≡ Some IsVariable → variable_at program qualified ≡ x → is_small (Some x) ≡ true → (v : Value) × (variable_in s qualified ≡ Some v) × Fits x v
+      variable_alias qualified x i m e small =
+          let t = variable_type program qualified m in
+          let among = variable_among program qualified.instance qualified.name t.0 i t.1 in
+          let has = all_in (λ x. (v : Value) × (s x.path ≡ Some v) × Contains (all_values x.type) v) (variables program) (record { path = path_of qualified.instance ++ qualified.name ∷ []; type = t.0 }) typed among in
           let f : type_sort t.0 ≡ x = sym (ap variable_sort t.1) ∙ e in
           let small' : is_small (Some (type_sort t.0)) ≡ true = subst (λ (y : Sort). is_small (Some y) ≡ true) (sym f) small in
           (has.0, has.1, subst (λ (y : Sort). Fits y has.0) f (type_fits t.0 has.0 small' (in_of (all_values t.0) has.0 has.2)))
 
-      stands : (t : ℕ) → t ≤ most → Stands t
-      stands zero h spot x i e k m = cc
-      stands (suc t) h spot x i e k m =
-          let a = then_some program (meant_at program spot) (by_name (sorted t) spot) x e in
-          let r = at a.0 a.1 a.2 (stands t (omega arith)) in
-          (r.0, ap (λ (o : Option (Meant Place)). and_then o (worth_of (meant_at program) (symbol_of program) (variable_in s) (worthed t) spot)) a.1 ∙ r.1, r.2)
+      instance_at : (t : ℕ) → t ≤ most → HasValueOfSort t
+      instance_at zero h qualified x i e k m = cc
+      instance_at (suc t) h qualified x i e k m =
+          let a = then_some program (binding_at program qualified) (by_name (sorted t) qualified) x e in
+          let r = at a.0 a.1 a.2 (instance_at t (omega arith)) in
+          (r.0, ap (λ (o : Option (Binding Instance)). and_then o (value_of_binding (binding_at program) (symbol_of program) (variable_in s) (worthed t) qualified)) a.1 ∙ r.1, r.2)
         where
-          at : (n : Meant Place) → meant_at program spot ≡ Some n → by_name (sorted t) spot n ≡ Some x → Stands t → (v : Value) × (worth_of (meant_at program) (symbol_of program) (variable_in s) (worthed t) spot n ≡ Some v) × Fits x v
-          at IsVariable q f has = let g : variable_at program spot ≡ x = (cc) in variable_stands spot x i q g m
+          at : (n : Binding Instance) → binding_at program qualified ≡ Some n → by_name (sorted t) qualified n ≡ Some x → HasValueOfSort t → (v : Value) × (value_of_binding (binding_at program) (symbol_of program) (variable_in s) (worthed t) qualified n ≡ Some v) × Fits x v
+          at IsVariable q f has = let g : variable_at program qualified ≡ x = (cc) in variable_alias qualified x i q g m
           at (IsInstance p) q f has = let g : Nothing ≡ x = (cc) in let k' = subst (λ (y : Sort). has_kind (Some y) ≡ true) (sym g) k in cc
           at (IsDefine right) q f has =
-              let d = define_item program spot right q in
-              let r = right_kept spot.place right i d.0 d.1 d.2 in
-              read_stands t (omega arith) has spot.place right x i r.0 r.1 f
+              let d = define_item program qualified right q in
+              let r = right_kept qualified.instance right i d.0 d.1 d.2 in
+              let y = defined_is (facts_of (sorting t qualified.instance) right).sort x f in
+              let m = read_alias t (omega arith) has qualified.instance right y.0 i r.0 r.1 y.1 in
+              (m.0, m.1, fits_defined x y.0 m.0 y.2 m.2)
           at (IsFormal outer actual) q f has =
-              let o = formal_outer program spot outer actual i q in
+              let o = formal_outer program qualified outer actual i q in
               let r = actual_kept outer o.actuals actual o.there o.among o.item.0 o.item.1 o.item.2 in
-              actual_stands t (omega arith) has outer actual x o.there r k f
+              actual_alias t (omega arith) has outer actual x o.there r k f
           at IsNothing q f has = let g : Nothing ≡ x = (cc) in let k' = subst (λ (y : Sort). has_kind (Some y) ≡ true) (sym g) k in cc
 
-      pub state_agrees : (place : Place) → In place (instances program) → Agrees (sorting_in program place) (reading_in program s place)
-      state_agrees place i = agrees most (stands most (omega arith)) place i
+      pub state_agrees : (instance : Instance) → In instance (instances program) → Agrees (sorting_in program instance) (environment_in program s instance)
+      state_agrees instance i = agrees most (instance_at most (omega arith)) instance i
 
-    value_is : (place : Place) (e : Expr) (s t : State) → In place (instances program) → IsState program s → IsState program t → IsKept (facts_in program place e) → (shape_of e).plain ≡ true → Meets (facts_in program place e) (value_in program s t place e)
-    value_is place e s t i p q = (sound (sorting_in program place) e).value (reading_in program s place) (reading_in program t place) (state_agrees s p place i) (state_agrees t q place i)
+    value_is : (instance : Instance) (e : Expr) (s t : State) → In instance (instances program) → IsState program s → IsState program t → IsKept (facts_in program instance e) → (shape_of e).plain ≡ true → Meets (facts_in program instance e) (value_in program s t instance e)
+    value_is instance e s t i p q = (sound (sorting_in program instance) e).value (environment_in program s instance) (environment_in program t instance) (state_agrees s p instance i) (state_agrees t q instance i)
 
-    allows_is : (place : Place) (e : Expr) (s t : State) → In place (instances program) → IsState program s → IsState program t → IsKept (facts_in program place e) → (shape_of e).free ≡ true → Allows (facts_in program place e) (allows_in program s t place e)
-    allows_is place e s t i p q = (sound (sorting_in program place) e).allows (reading_in program s place) (reading_in program t place) (state_agrees s p place i) (state_agrees t q place i)
+    allows_is : (instance : Instance) (e : Expr) (s t : State) → In instance (instances program) → IsState program s → IsState program t → IsKept (facts_in program instance e) → (shape_of e).free ≡ true → Allows (facts_in program instance e) (allows_in program s t instance e)
+    allows_is instance e s t i p q = (sound (sorting_in program instance) e).allows (environment_in program s instance) (environment_in program t instance) (state_agrees s p instance i) (state_agrees t q instance i)
 
-    -- what each pass says of an item
-    record Rules (place : Place) (a : Ask) : Type 0 where
-      kinds : keeps_in program pass.Kinds place a ≡ true
-      small : keeps_in program pass.Widths place a ≡ true
-      mods : keeps_in program pass.Mods place a ≡ true
+    -- the rules that an item keeps, pass by pass
+    record Rules (instance : Instance) (a : ItemContent) : Type 0 where
+      kinds : keeps_in program pass.Kinds instance a ≡ true
+      small : keeps_in program pass.Magnitudes instance a ≡ true
+      mods : keeps_in program pass.Mods instance a ≡ true
       shape : is_shaped a ≡ true
 
-    constraint_kept : (place : Place) (e : Expr) → Rules place (Constrained e) → IsKept (facts_in program place e)
-    constraint_kept place e r =
-        let k = both_true (facts_in program place e).kinds (facts_in program place e).fits r.kinds in
-        let m = both_true (facts_in program place e).small true r.small in
-        let n = both_true (facts_in program place e).mods true r.mods in
+    constraint_kept : (instance : Instance) (e : Expr) → Rules instance (Constrained e) → IsKept (facts_in program instance e)
+    constraint_kept instance e r =
+        let k = both_true (facts_in program instance e).kinds (facts_in program instance e).fits r.kinds in
+        let m = both_true (facts_in program instance e).small true r.small in
+        let n = both_true (facts_in program instance e).mods true r.mods in
         record { kinds = k.0; small = m.0; mods = n.0 }
 
-    abbrev IsKeptAt : Place → Expr → Type 0
-    IsKeptAt place = Kept (sorting_in program place)
+    abbrev IsKeptAt : Instance → Expr → Type 0
+    IsKeptAt instance = Kept (sorting_in program instance)
 
-    plain_at : (place : Place) (e : Expr) → IsKept (facts_in program place e) → (shape_of e).plain ≡ true → IsKeptAt place e
-    plain_at place e k p = record { kept = k; free = (sound (sorting_in program place) e).loose p }
+    plain_at : (instance : Instance) (e : Expr) → IsKept (facts_in program instance e) → (shape_of e).plain ≡ true → IsKeptAt instance e
+    plain_at instance e k p = record { kept = k; free = (sound (sorting_in program instance) e).loose p }
 
-    given_value : (place : Place) (actuals : List Expr) (e : Expr) → In e (filter (λ x. not (is_instance program place x)) actuals) → Rules place (Given actuals) → IsKeptAt place e
-    given_value place actuals e i r =
-        let f = from_filter (λ x. not (is_instance program place x)) actuals e i in
-        let c = given_kept place actuals e f.0 r.kinds r.small r.mods r.shape in
-        elim c.kinds [ inl g ↦ absurd (not_both (is_instance program place e) f.1 g) | inr g ↦ plain_at place e (record { kinds = g; small = c.small; mods = c.mods }) c.plain ]
+    given_value : (instance : Instance) (actuals : List Expr) (e : Expr) → In e (filter (λ x. not (is_instance program instance x)) actuals) → Rules instance (Given actuals) → IsKeptAt instance e
+    given_value instance actuals e i r =
+        let f = from_filter (λ x. not (is_instance program instance x)) actuals e i in
+        let c = given_kept instance actuals e f.0 r.kinds r.small r.mods r.shape in
+        elim c.kinds [ inl g ↦ absurd (not_both (is_instance program instance e) f.1 g) | inr g ↦ plain_at instance e (record { kinds = g; small = c.small; mods = c.mods }) c.plain ]
 
-    -- the expressions of an item that stand for values keep the rules
-    value_kept : (place : Place) (a : Ask) (e : Expr) → Rules place a → In e (value_expressions (is_instance program place) a) → IsKeptAt place e
-    value_kept place (Typed type) e r i = absurd i
-    value_kept place (Given actuals) e r i = given_value place actuals e i r
-    value_kept place (Assigned name right) e r (inl same) =
-        let k = both_true (facts_in program place right).kinds (assignable (target_in program place name) (facts_in program place right)) r.kinds in
-        let m = both_true (facts_in program place right).small true r.small in
-        let n = both_true (facts_in program place right).mods true r.mods in
-        subst (IsKeptAt place) same (record { kept = record { kinds = k.0; small = m.0; mods = n.0 }; free = r.shape })
-    value_kept place (Assigned name right) e r (inr i) = absurd i
-    value_kept place (Defined right) e r (inl same) = subst (IsKeptAt place) same (plain_at place right (record { kinds = r.kinds; small = r.small; mods = r.mods }) r.shape)
-    value_kept place (Defined right) e r (inr i) = absurd i
-    value_kept place (Constrained x) e r (inl same) = subst (IsKeptAt place) same (plain_at place x (constraint_kept place x r) r.shape)
-    value_kept place (Constrained x) e r (inr i) = absurd i
+    -- the expressions of an item that have values keep the rules
+    value_kept : (instance : Instance) (a : ItemContent) (e : Expr) → Rules instance a → In e (value_expressions (is_instance program instance) a) → IsKeptAt instance e
+    value_kept instance (Typed type) e r i = absurd i
+    value_kept instance (Given actuals) e r i = given_value instance actuals e i r
+    value_kept instance (Assigned name right) e r (inl same) =
+        let k = both_true (facts_in program instance right).kinds (assignable (target_in program instance name) (facts_in program instance right)) r.kinds in
+        let m = both_true (facts_in program instance right).small true r.small in
+        let n = both_true (facts_in program instance right).mods true r.mods in
+        subst (IsKeptAt instance) same (record { kept = record { kinds = k.0; small = m.0; mods = n.0 }; free = r.shape })
+    value_kept instance (Assigned name right) e r (inr i) = absurd i
+    value_kept instance (Defined right) e r (inl same) = subst (IsKeptAt instance) same (plain_at instance right (record { kinds = r.kinds; small = r.small; mods = r.mods }) r.shape)
+    value_kept instance (Defined right) e r (inr i) = absurd i
+    value_kept instance (Constrained x) e r (inl same) = subst (IsKeptAt instance) same (plain_at instance x (constraint_kept instance x r) r.shape)
+    value_kept instance (Constrained x) e r (inr i) = absurd i
 
-    item_has : (place : Place) (a : Ask) (s t : State) → In place (instances program) → IsState program s → IsState program t → Rules place a → HasValues program place s t a
-    item_has place (Typed type) s t i p q r = tt
-    item_has place (Given actuals) s t i p q r = λ e k.
-        let c = given_kept place actuals e (in_of actuals e k) r.kinds r.small r.mods r.shape in
-        elim c.kinds [ inl f ↦ inl f | inr f ↦ inr (value_is place e s t i p q (record { kinds = f; small = c.small; mods = c.mods }) c.plain) ]
-    item_has place (Assigned name right) s t i p q r =
-        let k = value_kept place (Assigned name right) right r (inl refl) in
-        allows_is place right s t i p q k.kept k.free
-    item_has place (Defined right) s t i p q r = value_is place right s t i p q (record { kinds = r.kinds; small = r.small; mods = r.mods }) r.shape
-    item_has place (Constrained e) s t i p q r =
-        let v = value_is place e s t i p q (constraint_kept place e r) r.shape in
-        let b = v.2.serves (both_true (facts_in program place e).kinds (facts_in program place e).fits r.kinds).1 in
+    item_has : (instance : Instance) (a : ItemContent) (s t : State) → In instance (instances program) → IsState program s → IsState program t → Rules instance a → HasValues program instance s t a
+    item_has instance (Typed type) s t i p q r = tt
+    item_has instance (Given actuals) s t i p q r = λ e k.
+        let c = given_kept instance actuals e (in_of actuals e k) r.kinds r.small r.mods r.shape in
+        elim c.kinds [ inl f ↦ inl f | inr f ↦ inr (value_is instance e s t i p q (record { kinds = f; small = c.small; mods = c.mods }) c.plain) ]
+    item_has instance (Assigned name right) s t i p q r =
+        let k = value_kept instance (Assigned name right) right r (inl refl) in
+        allows_is instance right s t i p q k.kept k.free
+    item_has instance (Defined right) s t i p q r = value_is instance right s t i p q (record { kinds = r.kinds; small = r.small; mods = r.mods }) r.shape
+    item_has instance (Constrained e) s t i p q r =
+        let v = value_is instance e s t i p q (constraint_kept instance e r) r.shape in
+        let b = v.2.serves (both_true (facts_in program instance e).kinds (facts_in program instance e).fits r.kinds).1 in
         (b.0, ap (λ (o : Option Value). and_then o truth) v.1 ∙ b.1)
 
-    rules_kept : (place : Place) (item : Item) → In place (instances program) → In item (items_at program place) → Rules place item.ask
-    rules_kept place item i j = record {
-      kinds = item_kept program none pass.Kinds place item i j;
-      small = item_kept program none pass.Widths place item i j;
-      mods = item_kept program none pass.Mods place item i j;
-      shape = item_shaped program shaped place item i j;
+    rules_kept : (instance : Instance) (item : Item) → In instance (instances program) → In item (items_at program instance) → Rules instance item.content
+    rules_kept instance item i j = record {
+      kinds = item_kept program none pass.Kinds instance item i j;
+      small = item_kept program none pass.Magnitudes instance item i j;
+      mods = item_kept program none pass.Mods instance item i j;
+      shape = item_shaped program shaped instance item i j;
     }
 
-    defined : (place : Place) (e : Expr) (s t : State) → In place (instances program) → IsState program s → IsState program t → IsKeptAt place e → IsDefined program place s t e
-    defined place e s t i p q k = record {
+    defined : (instance : Instance) (e : Expr) (s t : State) → In instance (instances program) → IsState program s → IsState program t → IsKeptAt instance e → IsDefined program instance s t e
+    defined instance e s t i p q k = record {
       kept = k.kept;
-      value = λ plain. value_is place e s t i p q k.kept plain;
-      allows = allows_is place e s t i p q k.kept k.free;
+      value = λ plain. value_is instance e s t i p q k.kept plain;
+      allows = allows_is instance e s t i p q k.kept k.free;
     }
 
-    -- each item of each instance has what it must in each two states, and each expression in it is defined
+    -- each item of each instance has its values in each two states, and each expression in it is
+    -- defined
     pub is_sound : IsSound program
     is_sound = record {
-      items = λ place item s t i j p q.
-          let k = in_of (instances program) place i in
-          item_has place item.ask s t k p q (rules_kept place item k (in_of (items_at program place) item j));
-      parts = λ place item e part s t i j v h p q.
-          let k = in_of (instances program) place i in
-          let exprs = value_expressions (is_instance program place) item.ask in
-          let r = value_kept place item.ask e (rules_kept place item k (in_of (items_at program place) item j)) (in_of exprs e v) in
-          defined place part s t k p q (part_kept (sorting_in program place) h.0 e part r (in_of (parts_below h.0 e) part h.1));
-      value = λ place e s t i p q. value_is place e s t (in_of (instances program) place i) p q;
-      allows = λ place e s t i p q. allows_is place e s t (in_of (instances program) place i) p q;
+      items = λ instance item s t i j p q.
+          let k = in_of (instances program) instance i in
+          item_has instance item.content s t k p q (rules_kept instance item k (in_of (items_at program instance) item j));
+      parts = λ instance item e part s t i j v h p q.
+          let k = in_of (instances program) instance i in
+          let exprs = value_expressions (is_instance program instance) item.content in
+          let r = value_kept instance item.content e (rules_kept instance item k (in_of (items_at program instance) item j)) (in_of exprs e v) in
+          defined instance part s t k p q (part_kept (sorting_in program instance) h.0 e part r (in_of (parts_below h.0 e) part h.1));
+      value = λ instance e s t i p q. value_is instance e s t (in_of (instances program) instance i) p q;
+      allows = λ instance e s t i p q. allows_is instance e s t (in_of (instances program) instance i) p q;
     }
 
--- an answer that tells of no fault tells of a sound program
-pub sound_if_ok : {A : Type 0} (program : Program) (r : Result A Fault) → TellsFirst (kinds_fault program) r → IfOk r (λ u. AreShaped program → IsSound program)
+-- an answer without a fault belongs to a sound program
+pub sound_if_ok : {A : Type 0} (program : Program) (r : Result A Fault) → ReportsFirst (kinds_fault program) r → IfOk r (λ u. AreShaped program → IsSound program)
 sound_if_ok program (Ok a) h = λ shaped. is_sound program h shaped
 sound_if_ok program (Err f) h = tt

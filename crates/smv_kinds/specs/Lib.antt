@@ -2,8 +2,8 @@ pub mod Intervals
 pub mod Sorts
 pub mod Facts
 pub mod Parts
-pub mod Readings
-pub mod Growing
-pub mod Asks
+pub mod SortsOfNames
+pub mod Monotone
+pub mod ItemRules
 pub mod Rules
 pub mod Soundness

@@ -1,4 +1,5 @@
--- What the rules give: an expression that keeps them has a value of its kind, within its interval and within the limit.
+-- Soundness of the rules: an expression that keeps them has a value of its kind, within its
+-- interval and the limit of magnitude.
 use Rattle.std.specs.Prelude.{◌≡◌, Bool, true, false, not, ◌&&◌, ◌⊎◌, List, [], ◌∷◌, filter, ℤ, int_le, ◌≤ℤ◌, Option, Some, None}
 use Rattle.std.specs.List.{list_all, Contains}
 use Rattle.smv_ast.specs.declared.syntax.Expr.{Expr, fold-Expr, Expr-F}
@@ -8,19 +9,19 @@ use Rattle.smv_meaning.specs.declared.value.Value.{Value}
 use Rattle.smv_meaning.specs.declared.value.Value.TheVariants.{Number as Whole, Symbol as Word}
 use Rattle.smv_meaning.specs.Value.{Name, and_then, truth, same}
 use Rattle.smv_ast.specs.declared.program.Program.{Program}
-use Rattle.smv_meaning.specs.Instances.{Place, module_at, instances}
+use Rattle.smv_meaning.specs.Instances.{Instance, module_at, instances}
 use Rattle.smv_meaning.specs.Values.{State, value_in, allows_in}
 use Rattle.smv_meaning.specs.Runs.{IsState}
 use Rattle.smv_kinds.specs.declared.intervals.Interval.{Interval}
 use Rattle.smv_kinds.specs.declared.sorts.Sort.{Sort}
-use Rattle.smv_kinds.specs.declared.sorts.Sort.TheVariants.{Boolean, Number, Symbol, Nothing}
+use Rattle.smv_kinds.specs.declared.sorts.Sort.TheVariants.{Boolean, Number, Symbol, Alias, Nothing}
 use Rattle.smv_kinds.specs.declared.facts.Facts.{Facts}
 use Rattle.smv_kinds.specs.Intervals.{is_within}
 use Rattle.smv_kinds.specs.Parts.{IsPart}
-use Rattle.smv_kinds.specs.Readings.{facts_in, is_instance}
-use Rattle.smv_kinds.specs.Asks.{Ask, Typed, Given, Assigned, Defined, Constrained, Item, all_items}
+use Rattle.smv_kinds.specs.SortsOfNames.{facts_in, is_instance}
+use Rattle.smv_kinds.specs.ItemRules.{ItemContent, Typed, Given, Assigned, Defined, Constrained, Item, all_items}
 
--- a value that may stand where a truth value is needed
+-- a value that may be used as a truth value
 abbrev pub IsTruth : Value → Type 0
 IsTruth v = (b : Bool) × (truth v ≡ Some b)
 
@@ -35,35 +36,35 @@ pub record IsCount (i : Interval) (v : Value) : Type 0 where
 -- a value of a sort
 abbrev pub Fits : Sort → Value → Type 0
 Fits Boolean v = IsTruth v
-Fits (Number (Some i)) v = IsCount i v
-Fits (Number None) v = ⊥
+Fits (Number i) v = IsCount i v
 Fits Symbol v = (name : Name) × (v ≡ Word name)
+Fits Alias v = ⊥
 Fits Nothing v = ⊥
 
--- the same, where the sort is known
+-- a value of a sort, if the sort is known
 abbrev pub FitsKnown : Option Sort → Value → Type 0
 FitsKnown None v = ⊥
 FitsKnown (Some s) v = Fits s v
 
--- a value of which that holds what is known
+-- a value that agrees with the facts
 pub record IsOf (a : Facts) (v : Value) : Type 0 where
   pub sort : FitsKnown a.sort v
   pub serves : a.fits ≡ true → IsTruth v
 
--- there is a value, and it is of what is known
+-- the value is defined, and agrees with the facts
 abbrev pub Meets : Facts → Option Value → Type 0
 Meets a o = (v : Value) × (o ≡ Some v) × IsOf a v
 
--- no rule is broken in it
+-- the facts of an expression that keeps all rules
 pub record IsKept (a : Facts) : Type 0 where
   pub kinds : a.kinds ≡ true
   pub small : a.small ≡ true
   pub mods : a.mods ≡ true
 
--- ---- where choices stand
+-- ---- positions of choices
 
--- whether an expression has no choice but behind `in`, and whether it has none but as a right side may; a span with its
--- low end above the high one is no choice of a right side
+-- whether an expression has choices only after `in`, and whether it has others only where a right
+-- side may; an empty interval is no choice of a right side
 pub record Shape : Type 0 where
   pub plain : Bool
   pub free : Bool
@@ -73,16 +74,17 @@ pub record BranchShape : Type 0 where
   pub cond : Shape
   pub value : Shape
 
--- an expression that is no choice is as plain as its parts
+-- the shape of an expression that is no choice, given whether its parts are plain
 abbrev pub single_shape : Bool → Shape
 single_shape plain = record { plain = plain; free = plain }
 
--- a choice is as its parts
+-- the shape of a choice, given those of its parts
 abbrev pub choice_shape_layer : Choice-F Shape Shape BranchShape → Shape
-choice_shape_layer (Choice-F.Each parts) = record { plain = list_all (λ p. p.plain) parts; free = list_all (λ p. p.free) parts }
+choice_shape_layer (Choice-F.Each parts) = record
+    { plain = list_all (λ p. p.plain) parts; free = list_all (λ p. p.free) parts }
 choice_shape_layer (Choice-F.Between low high) = record { plain = true; free = int_le low high }
 
--- an expression, of the shapes of its parts
+-- the shape of an expression, given those of its parts
 abbrev pub expr_shape_layer : Expr-F Shape Shape BranchShape → Shape
 expr_shape_layer Expr-F.True = single_shape true
 expr_shape_layer Expr-F.False = single_shape true
@@ -99,80 +101,103 @@ expr_shape_layer (Expr-F.Cases branches) = record {
 expr_shape_layer (Expr-F.Next a) = single_shape a.plain
 expr_shape_layer (Expr-F.Pick choice) = record { plain = false; free = choice.free }
 
--- a branch keeps the shapes of its parts
+-- the shapes of a branch, given those of its parts
 abbrev pub branch_shape_layer : Branch-F Shape Shape BranchShape → BranchShape
 branch_shape_layer branch = record { cond = branch.cond; value = branch.value }
 
--- the shape of an expression, layer by layer
+-- the shape of an expression, by recursion on its parts
 abbrev pub shape_of : Expr → Shape
 shape_of = fold-Expr Shape Shape BranchShape choice_shape_layer expr_shape_layer branch_shape_layer
 
 -- the shape of a choice
 abbrev pub choice_shape : Choice → Shape
-choice_shape = fold-Choice Shape Shape BranchShape choice_shape_layer expr_shape_layer branch_shape_layer
+choice_shape = fold-Choice Shape Shape BranchShape choice_shape_layer expr_shape_layer
+    branch_shape_layer
 
 -- the shapes of a branch
 abbrev pub branch_shape : Branch → BranchShape
-branch_shape = fold-Branch Shape Shape BranchShape choice_shape_layer expr_shape_layer branch_shape_layer
+branch_shape = fold-Branch Shape Shape BranchShape choice_shape_layer expr_shape_layer
+    branch_shape_layer
 
 -- ---- programs
 
--- whether the choices of an item stand where they may: at the top of the right side of an assignment, in the values of a
--- case there, and behind `in`
-abbrev pub is_shaped : Ask → Bool
+-- whether the choices of an item are where they may be: on top of the right side of an assignment,
+-- in the values of a case there, and after `in`
+abbrev pub is_shaped : ItemContent → Bool
 is_shaped (Typed type) = true
 is_shaped (Given actuals) = list_all (λ e. (shape_of e).plain) actuals
 is_shaped (Assigned name right) = (shape_of right).free
 is_shaped (Defined right) = (shape_of right).plain
 is_shaped (Constrained e) = (shape_of e).plain
 
--- the choices of all items of all instances do
+-- the choices of all items of all instances are where they may be
 abbrev pub AreShaped : Program → Type 0
-AreShaped program = list_all (λ place. list_all (λ item. is_shaped item.ask) (all_items (module_at program place).sections)) (instances program) ≡ true
+AreShaped program = list_all
+    (λ instance. list_all (λ item. is_shaped item.content)
+    (all_items (module_at program instance).sections)) (instances program) ≡ true
 
 -- an expression that keeps the rules in an instance
-abbrev pub IsKeptIn : Program → Place → Expr → Type 0
-IsKeptIn program place e = IsKept (facts_in program place e)
+abbrev pub IsKeptIn : Program → Instance → Expr → Type 0
+IsKeptIn program instance e = IsKept (facts_in program instance e)
 
--- what is allowed as a right side: of each value it is known whether it is allowed; one that is of what is known of the right
--- side is; and each that is allowed is the same as one that is of what is known
+-- the values that a right side allows: whether it allows a value is always defined; it allows some
+-- value that agrees with its facts; each value that it allows equals one that does
 pub record Allows (f : Facts) (allows : Value → Option Bool) : Type 0 where
   pub total : (v : Value) → (b : Bool) × (allows v ≡ Some b)
   pub some : (v : Value) × IsOf f v × (allows v ≡ Some true)
   pub each : (v : Value) → allows v ≡ Some true → (w : Value) × (same v w ≡ true) × IsOf f w
 
--- what an item has in an instance and two states: a constraint a truth value, the right side of an assignment values that it
--- allows, that of a DEFINE a value of its sort, and so each actual that stands for no instance
-abbrev pub HasValues : Program → Place → State → State → Ask → Type 0
-HasValues program place s t (Typed type) = Unit {0}
-HasValues program place s t (Given actuals) = (e : Expr) → Contains actuals e → (is_instance program place e ≡ true) ⊎ Meets (facts_in program place e) (value_in program s t place e)
-HasValues program place s t (Assigned name right) = Allows (facts_in program place right) (allows_in program s t place right)
-HasValues program place s t (Defined right) = Meets (facts_in program place right) (value_in program s t place right)
-HasValues program place s t (Constrained e) = (b : Bool) × (and_then (value_in program s t place e) truth ≡ Some b)
+-- the values of an item in an instance and two states: a constraint has a truth value, the right
+-- side of an assignment allows values, a definition has a value of its sort, and so has each actual
+-- that denotes no instance
+abbrev pub HasValues : Program → Instance → State → State → ItemContent → Type 0
+HasValues program instance s t (Typed type) = Unit {0}
+HasValues program instance s t (Given actuals) = (e : Expr) → Contains actuals e
+    → (is_instance program instance e ≡ true)
+    ⊎ Meets (facts_in program instance e) (value_in program s t instance e)
+HasValues program instance s t (Assigned name right) = Allows (facts_in program instance right)
+    (allows_in program s t instance right)
+HasValues program instance s t (Defined right) = Meets (facts_in program instance right)
+    (value_in program s t instance right)
+HasValues program instance s t (Constrained e) = (b : Bool)
+    × (and_then (value_in program s t instance e) truth ≡ Some b)
 
--- the expressions of an item that stand for values: all but the actuals that stand for instances
-abbrev pub value_expressions : (Expr → Bool) → Ask → List Expr
-value_expressions stands (Typed type) = []
-value_expressions stands (Given actuals) = filter (λ e. not (stands e)) actuals
-value_expressions stands (Assigned name right) = right ∷ []
-value_expressions stands (Defined right) = right ∷ []
-value_expressions stands (Constrained e) = e ∷ []
+-- the expressions of an item that have values: all but the actuals that denote instances
+abbrev pub value_expressions : (Expr → Bool) → ItemContent → List Expr
+value_expressions is_instance (Typed type) = []
+value_expressions is_instance (Given actuals) = filter (λ e. not (is_instance e)) actuals
+value_expressions is_instance (Assigned name right) = right ∷ []
+value_expressions is_instance (Defined right) = right ∷ []
+value_expressions is_instance (Constrained e) = e ∷ []
 
--- an expression that is defined in an instance and two states: it keeps the rules, it has a value of its sort, if it is no
--- choice, and as a right side it allows some, all of its sort
-pub record IsDefined (program : Program) (place : Place) (s t : State) (e : Expr) : Type 0 where
-  pub kept : IsKeptIn program place e
-  pub value : (shape_of e).plain ≡ true → Meets (facts_in program place e) (value_in program s t place e)
-  pub allows : Allows (facts_in program place e) (allows_in program s t place e)
+-- an expression that is defined in an instance and two states: it keeps the rules, has a value of
+-- its sort if it has no choice but after `in`, and as a right side allows some values, each equal
+-- to one of its sort
+pub record IsDefined (program : Program) (instance : Instance) (s t : State) (e : Expr) : Type 0 where
+  pub kept : IsKeptIn program instance e
+  pub value : (shape_of e).plain ≡ true
+      → Meets (facts_in program instance e) (value_in program s t instance e)
+  pub allows : Allows (facts_in program instance e) (allows_in program s t instance e)
 
--- in each instance and each two states of a program each item has what it must, each expression that stands in an item is
--- defined, and any other that keeps the rules has a value of its sort, if it is no choice, and allows such values as a right
--- side
+-- in each instance and each two states of a program: each item has its values, each subexpression
+-- of an item is defined, and any other expression that keeps the rules has a value of its sort if
+-- it has no choice but after `in`, and as a right side allows such values if its choices are where
+-- they may be
 pub record IsSound (program : Program) : Type 0 where
-  pub items : (place : Place) (item : Item) (s t : State) → Contains (instances program) place → Contains (all_items (module_at program place).sections) item → IsState program s → IsState program t → HasValues program place s t item.ask
-  pub parts : (place : Place) (item : Item) (e part : Expr) (s t : State) → Contains (instances program) place → Contains (all_items (module_at program place).sections) item →
-      Contains (value_expressions (is_instance program place) item.ask) e → IsPart e part → IsState program s → IsState program t → IsDefined program place s t part
-  pub value : (place : Place) (e : Expr) (s t : State) → Contains (instances program) place → IsState program s → IsState program t → IsKeptIn program place e → (shape_of e).plain ≡ true →
-      Meets (facts_in program place e) (value_in program s t place e)
-  pub allows : (place : Place) (e : Expr) (s t : State) → Contains (instances program) place → IsState program s → IsState program t → IsKeptIn program place e → (shape_of e).free ≡ true →
-      Allows (facts_in program place e) (allows_in program s t place e)
+  pub items : (instance : Instance) (item : Item) (s t : State)
+      → Contains (instances program) instance
+      → Contains (all_items (module_at program instance).sections) item → IsState program s
+      → IsState program t → HasValues program instance s t item.content
+  pub parts : (instance : Instance) (item : Item) (e part : Expr) (s t : State)
+      → Contains (instances program) instance
+      → Contains (all_items (module_at program instance).sections) item →
+      Contains (value_expressions (is_instance program instance) item.content) e → IsPart e part
+      → IsState program s → IsState program t → IsDefined program instance s t part
+  pub value : (instance : Instance) (e : Expr) (s t : State) → Contains (instances program) instance
+      → IsState program s → IsState program t → IsKeptIn program instance e → (shape_of e).plain
+      ≡ true →
+      Meets (facts_in program instance e) (value_in program s t instance e)
+  pub allows : (instance : Instance) (e : Expr) (s t : State)
+      → Contains (instances program) instance → IsState program s → IsState program t
+      → IsKeptIn program instance e → (shape_of e).free ≡ true →
+      Allows (facts_in program instance e) (allows_in program s t instance e)

@@ -1,18 +1,18 @@
-//! What is known of expressions, with names read in an instance.
+//! The facts of expressions, with names read in an instance.
 
 ghost use Rattle.std.specs.Prelude.{◌≡◌, IfOk, map};
 ghost use Rattle.smv_kinds.specs.Facts as spec;
-ghost use Rattle.smv_kinds.specs.Readings as readings;
+ghost use Rattle.smv_kinds.specs.SortsOfNames as readings;
 
+use crate::context::Reader;
 use crate::facts::{
-    Facts, binary_facts, case_facts, denial_facts, name_facts, negation_facts, next_facts,
-    number_facts, parts_facts, span_facts, truth_facts, within_parts, within_span,
+    Facts, binary_facts, case_facts, interval_facts, name_facts, negation_facts, next_facts,
+    not_facts, number_facts, parts_facts, truth_facts, within_interval, within_parts,
 };
-use crate::net::Reader;
 use smv_ast::{Boxed, Branch, Choice, Expr, List, NoMemory};
 use std::alloc::Global;
 
-/// What is known of an expression. The only error is want of memory.
+/// The facts of an expression. The only error is `NoMemory`.
 #[cycle(expressions)]
 pub fn facts_of<'t>(alloc: Global, reader: &Reader<'t>, e: &Expr) -> Result<Facts, NoMemory>
     ensures { IfOk result (λ f. f ≡ spec.facts_of (readings.reads reader.now) e.now) }
@@ -22,7 +22,7 @@ pub fn facts_of<'t>(alloc: Global, reader: &Reader<'t>, e: &Expr) -> Result<Fact
         Expr::Number(n) => Ok(number_facts(*n)),
         Expr::Name(path) => Ok(name_facts(reader.sort_of(path))),
         Expr::Neg(a) => Ok(negation_facts(boxed_facts(alloc, reader, a)?)),
-        Expr::Not(a) => Ok(denial_facts(boxed_facts(alloc, reader, a)?)),
+        Expr::Not(a) => Ok(not_facts(boxed_facts(alloc, reader, a)?)),
         Expr::Binary(op, a, b) => {
             let left = boxed_facts(alloc, reader, a)?;
             let right = boxed_facts(alloc, reader, b)?;
@@ -52,27 +52,29 @@ fn within_facts<'t>(
     left: Facts,
     choice: &Choice,
 ) -> Result<Facts, NoMemory>
-    ensures { IfOk result (λ f. f ≡ spec.within_offer left (spec.offer_of (readings.reads reader.now) choice.now)) }
+    ensures { IfOk result (λ f. f
+        ≡ spec.within_choice left (spec.choice_facts_of (readings.reads reader.now) choice.now)) }
 {
     match choice {
         Choice::Each(parts) => {
             let found = list_facts(alloc, reader, parts.as_slice())?;
             Ok(within_parts(left, found.as_slice()))
         }
-        Choice::Between { low, high } => Ok(within_span(left, *low, *high)),
+        Choice::Between { low, high } => Ok(within_interval(left, *low, *high)),
     }
 }
 
 #[cycle(expressions)]
 fn pick_facts<'t>(alloc: Global, reader: &Reader<'t>, choice: &Choice) -> Result<Facts, NoMemory>
-    ensures { IfOk result (λ f. f ≡ spec.offered (spec.offer_of (readings.reads reader.now) choice.now)) }
+    ensures { IfOk result (λ f. f
+        ≡ spec.pick_facts (spec.choice_facts_of (readings.reads reader.now) choice.now)) }
 {
     match choice {
         Choice::Each(parts) => {
             let found = list_facts(alloc, reader, parts.as_slice())?;
             Ok(parts_facts(found.as_slice()))
         }
-        Choice::Between { low, high } => Ok(span_facts(*low, *high)),
+        Choice::Between { low, high } => Ok(interval_facts(*low, *high)),
     }
 }
 
@@ -82,7 +84,8 @@ fn list_facts<'t>(
     reader: &Reader<'t>,
     parts: &[Expr],
 ) -> Result<List<Facts>, NoMemory>
-    ensures { IfOk result (λ found. found ≡ map (spec.facts_of (readings.reads reader.now)) parts.now) }
+    ensures { IfOk result (λ found. found
+        ≡ map (spec.facts_of (readings.reads reader.now)) parts.now) }
 {
     let mut found = List::new(alloc);
     for part in parts {
@@ -98,7 +101,8 @@ fn cases_facts<'t>(
     reader: &Reader<'t>,
     branches: &[Branch],
 ) -> Result<Facts, NoMemory>
-    ensures { IfOk result (λ f. f ≡ spec.cases (map (spec.guarded_of (readings.reads reader.now)) branches.now)) }
+    ensures { IfOk result (λ f. f
+        ≡ spec.cases (map (spec.branch_facts_of (readings.reads reader.now)) branches.now)) }
 {
     let mut conditions = List::new(alloc);
     let mut values = List::new(alloc);

@@ -1,31 +1,31 @@
-//! What is known of an expression, and whether it keeps the rules.
+//! The facts of an expression: its sort, and the rules that it keeps.
 
 ghost use Rattle.std.specs.Prelude.{◌≡◌, Some};
 ghost use Rattle.smv_kinds.specs.Facts as spec;
 
 use crate::sorts::{
-    Sort, beside, binary_sort, divides, has_kind, is_boolean, is_number, is_same_kind, is_small,
-    join_both, negated_sort, span_sort, truth_sort,
+    Sort, binary_sort, divides, has_kind, if_known, interval_sort, is_boolean, is_number,
+    is_same_kind, is_small, join_both, negated_sort, truth_sort,
 };
 use smv_ast::Op;
 use sqlite_items::at;
 
-/// What is known of an expression.
+/// The facts of an expression.
 #[derive(Clone, Copy, Debug, Drop)]
 pub struct Facts {
-    /// Its kind, and of a number its interval; none where a name in it reads itself.
+    /// Its kind, and the interval of a number; none where a name in it is on a cycle.
     pub sort: Option<Sort>,
-    /// Whether it may stand where a truth value is needed.
+    /// Whether it may be used as a truth value.
     pub fits: bool,
     /// Whether no rule of kinds is broken in it.
     pub kinds: bool,
-    /// Whether no interval in it passes the limit.
+    /// Whether each interval in it is within the limit of magnitude.
     pub small: bool,
     /// Whether the rule of `mod` is kept in it.
     pub mods: bool,
 }
 
-/// An expression of this sort, over what is known of its parts.
+/// An expression of this sort, given the facts of its parts.
 fn node(sort: Option<Sort>, fits: bool, kinds: bool, small: bool, mods: bool) -> Facts
     ensures { result ≡ spec.node sort fits kinds small mods }
 {
@@ -45,22 +45,28 @@ pub fn truth_facts() -> Facts
     node(Some(Sort::Boolean), true, true, true, true)
 }
 
-/// A numeral. `0` and `1` may stand where a truth value is needed.
+/// A numeral. `0` and `1` may be used as truth values.
 pub fn number_facts(n: u32) -> Facts
     ensures { result ≡ spec.number_facts n }
 {
     let number = i64::from(n);
-    node(Some(span_sort(number, number)), n <= 1, true, true, true)
+    node(
+        Some(interval_sort(number, number)),
+        n <= 1,
+        true,
+        true,
+        true,
+    )
 }
 
-/// A name of this sort. One that stands for 0 or 1 may not stand for a truth value.
+/// A name of this sort. A name whose value is 0 or 1 may not be used as a truth value.
 pub fn name_facts(sort: Option<Sort>) -> Facts
     ensures { result ≡ spec.name_facts sort }
 {
     node(sort, is_boolean(sort), true, true, true)
 }
 
-/// `-a`, of a number.
+/// `-a`, for a number.
 pub fn negation_facts(a: Facts) -> Facts
     ensures { result ≡ spec.negation_facts a }
 {
@@ -68,9 +74,9 @@ pub fn negation_facts(a: Facts) -> Facts
     node(negated_sort(a.sort), false, kinds, a.small, a.mods)
 }
 
-/// `!a`, of a truth value.
-pub fn denial_facts(a: Facts) -> Facts
-    ensures { result ≡ spec.denial_facts a }
+/// `!a`, for a truth value.
+pub fn not_facts(a: Facts) -> Facts
+    ensures { result ≡ spec.not_facts a }
 {
     let kinds = a.kinds && a.fits;
     node(truth_sort(a.sort), true, kinds, a.small, a.mods)
@@ -83,7 +89,7 @@ pub fn next_facts(a: Facts) -> Facts
     node(a.sort, is_boolean(a.sort), a.kinds, a.small, a.mods)
 }
 
-/// Whether an expression may stand for a value of this sort.
+/// Whether an expression may be used as a value of this sort.
 pub fn suits(sort: Option<Sort>, a: Facts) -> bool
     ensures { result ≡ spec.suits sort a }
 {
@@ -93,14 +99,14 @@ pub fn suits(sort: Option<Sort>, a: Facts) -> bool
     is_same_kind(sort, a.sort)
 }
 
-/// Whether two expressions may be compared by `=`.
+/// Whether `=` may compare two expressions.
 fn agree(a: Facts, b: Facts) -> bool
     ensures { result ≡ spec.agree a b }
 {
     suits(a.sort, b) || suits(b.sort, a)
 }
 
-/// Whether an operator may stand between two expressions.
+/// Whether the operands of an operator keep its rule of kinds.
 fn binary_rule(op: Op, a: Facts, b: Facts) -> bool
     ensures { result ≡ spec.binary_rule op a b }
 {
@@ -120,7 +126,7 @@ fn mod_rule(op: Op, a: Facts, b: Facts) -> bool
     }
 }
 
-/// An operator between two expressions.
+/// A binary operator with its operands.
 pub fn binary_facts(op: Op, a: Facts, b: Facts) -> Facts
     ensures { result ≡ spec.binary_facts op a b }
 {
@@ -130,7 +136,7 @@ pub fn binary_facts(op: Op, a: Facts, b: Facts) -> Facts
     node(sort, is_boolean(sort), kinds, a.small && b.small, mods)
 }
 
-/// What is known of one of these values.
+/// The sort of one of these values.
 fn parts_sort(parts: &[Facts]) -> Option<Sort>
     ensures { result ≡ spec.parts_sort parts.now }
 {
@@ -220,20 +226,20 @@ pub fn parts_facts(parts: &[Facts]) -> Facts
     node(sort, fits, kinds, all_small(parts), all_mods(parts))
 }
 
-/// The numbers from one up to another.
-pub fn span_facts(low: i64, high: i64) -> Facts
-    ensures { result ≡ spec.span_facts low high }
+/// The numbers from `low` up to `high`.
+pub fn interval_facts(low: i64, high: i64) -> Facts
+    ensures { result ≡ spec.interval_facts low high }
 {
-    node(Some(span_sort(low, high)), false, true, true, true)
+    node(Some(interval_sort(low, high)), false, true, true, true)
 }
 
-/// A case with these conditions, over what is known of its values.
+/// A case with these conditions, given the facts of its values.
 pub fn case_facts(conditions: &[Facts], values: &[Facts]) -> Facts
     ensures { result ≡ spec.case_facts conditions.now values.now }
 {
     let made = parts_facts(values);
     Facts {
-        sort: beside(parts_sort(conditions), made.sort),
+        sort: if_known(parts_sort(conditions), made.sort),
         fits: made.fits,
         kinds: made.kinds && all_kinds(conditions) && all_fit(conditions),
         small: made.small && all_small(conditions),
@@ -241,22 +247,22 @@ pub fn case_facts(conditions: &[Facts], values: &[Facts]) -> Facts
     }
 }
 
-/// Whether a value is in a set.
+/// Membership of a value in a set.
 pub fn within_parts(a: Facts, parts: &[Facts]) -> Facts
     ensures { result ≡ spec.within_parts a parts.now }
 {
     let set = parts_facts(parts);
     let kinds = a.kinds && set.kinds && all_agree(a, parts);
     let small = a.small && set.small;
-    let sort = beside(a.sort, truth_sort(set.sort));
+    let sort = if_known(a.sort, truth_sort(set.sort));
     node(sort, true, kinds, small, a.mods && set.mods)
 }
 
-/// Whether a value is one of the numbers from one up to another.
-pub fn within_span(a: Facts, low: i64, high: i64) -> Facts
-    ensures { result ≡ spec.within_span a low high }
+/// Membership of a value in the numbers from `low` up to `high`.
+pub fn within_interval(a: Facts, low: i64, high: i64) -> Facts
+    ensures { result ≡ spec.within_interval a low high }
 {
     let kinds = a.kinds && is_number(a.sort);
-    let small = a.small && is_small(Some(span_sort(low, high)));
+    let small = a.small && is_small(Some(interval_sort(low, high)));
     node(truth_sort(a.sort), true, kinds, small, a.mods)
 }

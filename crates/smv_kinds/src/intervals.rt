@@ -1,13 +1,11 @@
-//! Intervals of numbers, within the limit of magnitude. One that passes it is none.
+//! Intervals of numbers: arithmetic, with ends that saturate, and the limit of magnitude.
 
-ghost use Rattle.std.specs.Prelude.{◌≡◌, ◌*ℤ◌, ◌≤ℤ◌};
-ghost use Rattle.std.specs.Int.{int_min, int_max};
+ghost use Rattle.std.specs.Prelude.{◌≡◌, ◌*ℤ◌};
 ghost use Rattle.smv_kinds.specs.Intervals as spec;
 
-use smv_ast::Op;
 use sqlite_items::at;
 
-/// The numbers from `low` up to `high`, both counted.
+/// The numbers from `low` up to `high`, both included.
 #[derive(Clone, Copy, Debug, Drop)]
 pub struct Interval {
     pub low: i64,
@@ -17,137 +15,111 @@ pub struct Interval {
 /// The greatest magnitude of a number.
 const LIMIT: i64 = 2_147_483_647;
 
-/// The interval with these ends, if both are within the limit.
-#[tactic(auto, unfolding(crate::specs::Intervals::limited, crate::specs::Intervals::is_within))]
-pub fn limited(low: i64, high: i64) -> Option<Interval>
-    ensures { result ≡ spec.limited low high }
+/// The magnitude at which the ends of intervals saturate: 2 ^ 62.
+const BOUND: i64 = 4_611_686_018_427_387_904;
+
+/// Whether a number is within the limit of magnitude.
+#[tactic(auto, unfolding(crate::specs::Intervals::is_within))]
+fn is_within(n: i64) -> bool
+    ensures { result ≡ spec.is_within n }
 {
-    if -LIMIT <= low && low <= LIMIT && -LIMIT <= high && high <= LIMIT {
-        return Some(Interval { low, high });
+    -LIMIT <= n && n <= LIMIT
+}
+
+/// Whether both ends of an interval are within the limit of magnitude.
+pub fn is_narrow(interval: Interval) -> bool
+    ensures { result ≡ spec.is_narrow interval }
+{
+    is_within(interval.low) && is_within(interval.high)
+}
+
+/// The nearest number whose magnitude is at most the bound.
+#[tactic(auto, unfolding(crate::specs::Intervals::saturated))]
+fn saturated(n: i64) -> i64
+    ensures { result ≡ spec.saturated n }
+{
+    n.clamp(-BOUND, BOUND)
+}
+
+/// The interval with these ends, each saturated.
+pub fn between(low: i64, high: i64) -> Interval
+    ensures { result ≡ spec.between low high }
+{
+    Interval {
+        low: saturated(low),
+        high: saturated(high),
     }
-    None
 }
 
-/// The same for ends that may not fit.
-fn limited_ends(low: Option<i64>, high: Option<i64>) -> Option<Interval>
-    ensures { result ≡ spec.limited_ends low high }
-{
-    match (low, high) {
-        (Some(low), Some(high)) => limited(low, high),
-        _ => None,
-    }
-}
-
-fn smaller(m: i64, n: i64) -> i64
-    ensures { result ≡ int_min m n }
-{
-    if n < m { n } else { m }
-}
-
-fn greater(m: i64, n: i64) -> i64
-    ensures { result ≡ int_max m n }
-{
-    if n < m { m } else { n }
-}
-
-/// The numbers of both and those between them.
-fn hull(a: Interval, b: Interval) -> Interval
+/// The least interval that contains both.
+#[tactic(auto, unfolding(crate::specs::Intervals::hull))]
+pub fn hull(a: Interval, b: Interval) -> Interval
     ensures { result ≡ spec.hull a b }
 {
     Interval {
-        low: smaller(a.low, b.low),
-        high: greater(a.high, b.high),
+        low: a.low.min(b.low),
+        high: a.high.max(b.high),
     }
 }
 
-/// The least interval that holds both.
-pub fn widened(a: Option<Interval>, b: Option<Interval>) -> Option<Interval>
-    ensures { result ≡ spec.widened a b }
-{
-    match (a, b) {
-        (Some(a), Some(b)) => Some(hull(a, b)),
-        _ => None,
-    }
-}
-
-fn sum(a: Interval, b: Interval) -> Option<Interval>
+/// The interval of the sums.
+pub fn sum(a: Interval, b: Interval) -> Interval
     ensures { result ≡ spec.sum a b }
 {
-    limited_ends(a.low.checked_add(b.low), a.high.checked_add(b.high))
+    between(a.low.saturating_add(b.low), a.high.saturating_add(b.high))
 }
 
-fn difference(a: Interval, b: Interval) -> Option<Interval>
+/// The interval of the differences.
+pub fn difference(a: Interval, b: Interval) -> Interval
     ensures { result ≡ spec.difference a b }
 {
-    limited_ends(a.low.checked_sub(b.high), a.high.checked_sub(b.low))
+    between(a.low.saturating_sub(b.high), a.high.saturating_sub(b.low))
 }
 
-/// The interval of four numbers.
-fn of_four(p: i64, q: i64, r: i64, s: i64) -> Option<Interval>
-    ensures { result ≡ spec.of_four p q r s }
+/// The interval of the product of two numbers.
+fn single_product(m: i64, n: i64) -> Interval
+    ensures { result ≡ spec.alone (m *ℤ n) }
 {
-    limited(
-        smaller(smaller(p, q), smaller(r, s)),
-        greater(greater(p, q), greater(r, s)),
-    )
+    let product = m.saturating_mul(n);
+    between(product, product)
 }
 
-/// The products of the ends lie outermost.
-fn product(a: Interval, b: Interval) -> Option<Interval>
+/// The interval of the products: the least that contains the products of the ends.
+pub fn product(a: Interval, b: Interval) -> Interval
     ensures { result ≡ spec.product a b }
 {
-    let Some(p) = a.low.checked_mul(b.low) else {
-        return None;
-    };
-    let Some(q) = a.low.checked_mul(b.high) else {
-        return None;
-    };
-    let Some(r) = a.high.checked_mul(b.low) else {
-        return None;
-    };
-    let Some(s) = a.high.checked_mul(b.high) else {
-        return None;
-    };
-    of_four(p, q, r, s)
+    let of_low = hull(single_product(a.low, b.low), single_product(a.low, b.high));
+    let of_high = hull(
+        single_product(a.high, b.low),
+        single_product(a.high, b.high),
+    );
+    hull(of_low, of_high)
 }
 
-/// What may be left of a division by these numbers.
-fn remainder(divisor: Interval) -> Option<Interval>
+/// The interval of the remainders of a division by these numbers.
+pub fn remainder(divisor: Interval) -> Interval
     ensures { result ≡ spec.remainder divisor }
 {
-    limited_ends(Some(0), divisor.high.checked_sub(1))
+    between(0, divisor.high.saturating_sub(1))
 }
 
-/// The interval of an operator on numbers.
-pub fn of_operator(op: Op, a: Option<Interval>, b: Option<Interval>) -> Option<Interval>
-    ensures { result ≡ spec.of_operator op a b }
-{
-    match (op, a, b) {
-        (Op::Mod, _, Some(b)) => remainder(b),
-        (Op::Add, Some(a), Some(b)) => sum(a, b),
-        (Op::Sub, Some(a), Some(b)) => difference(a, b),
-        (Op::Mul, Some(a), Some(b)) => product(a, b),
-        _ => None,
-    }
-}
-
-/// The interval of the numbers with their signs turned.
-pub fn opposite(a: Interval) -> Option<Interval>
+/// The interval of the numbers with the opposite sign.
+pub fn opposite(a: Interval) -> Interval
     ensures { result ≡ spec.opposite a }
 {
-    limited_ends(a.high.checked_neg(), a.low.checked_neg())
+    between(a.high.saturating_neg(), a.low.saturating_neg())
 }
 
-/// The least interval that holds these numbers; none of no number.
-pub fn holding(numbers: &[i64]) -> Option<Interval>
+/// The least interval that contains these numbers; that of 0 without numbers.
+pub fn holding(numbers: &[i64]) -> Interval
     ensures { result ≡ spec.holding numbers.now }
 {
-    let mut held = match at(numbers, 0) {
-        Some(first) => limited(*first, *first),
-        None => None,
+    let mut interval = match at(numbers, 0) {
+        Some(first) => between(*first, *first),
+        None => between(0, 0),
     };
     for n in numbers {
-        held = widened(held, limited(*n, *n));
+        interval = hull(interval, between(*n, *n));
     }
-    held
+    interval
 }

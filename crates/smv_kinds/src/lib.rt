@@ -1,18 +1,18 @@
-//! Kinds of expressions, and intervals of numbers: whether a program keeps the rules of both.
+//! The checks of kinds and of intervals of numbers.
 #![tactic(auto)]
 
 mod check;
+mod context;
 mod expressions;
 mod facts;
-mod here;
+mod in_instance;
+mod instance_context;
 mod intervals;
 mod items;
-mod net;
 mod order;
 mod pass;
-mod places;
+mod solution;
 mod sorts;
-mod table;
 
 pub use check::check_kinds;
 pub use facts::Facts;

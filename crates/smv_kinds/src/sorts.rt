@@ -1,23 +1,27 @@
-//! What is known of a value before any state is: its kind, and of a number its interval.
+//! The sort of a value: its kind, and the interval of a number.
 
 ghost use Rattle.std.specs.Prelude.{◌≡◌};
 ghost use Rattle.smv_kinds.specs.Sorts as spec;
 
-use crate::intervals::{Interval, holding, limited, of_operator, opposite, widened};
+use crate::intervals::{
+    Interval, between, difference, holding, hull, is_narrow, opposite, product, remainder, sum,
+};
 use smv_ast::{Op, SmvType};
 
 /// The kind of an expression, and the interval of a number.
 #[derive(Clone, Copy, Debug, Drop)]
 pub enum Sort {
     Boolean,
-    /// None is an interval that passes the limit of magnitude.
-    Number(Option<Interval>),
+    Number(Interval),
     Symbol,
-    /// No kind: what stands for an instance, or for nothing.
+    /// A definition of an instance, or a name that is defined as one. No rule of kinds accepts it;
+    /// the definition whose own right side is a path to the instance is at fault.
+    Alias,
+    /// No kind: an instance, or a formal without an actual.
     Nothing,
 }
 
-/// Whether this is the kind of truth values.
+/// Whether the kind is Boolean.
 pub fn is_boolean(sort: Option<Sort>) -> bool
     ensures { result ≡ spec.is_boolean sort }
 {
@@ -27,7 +31,7 @@ pub fn is_boolean(sort: Option<Sort>) -> bool
     }
 }
 
-/// Whether this is the kind of numbers.
+/// Whether the kind is Number.
 pub fn is_number(sort: Option<Sort>) -> bool
     ensures { result ≡ spec.is_number sort }
 {
@@ -37,7 +41,7 @@ pub fn is_number(sort: Option<Sort>) -> bool
     }
 }
 
-/// Whether there is a kind.
+/// Whether the sort has a kind. An alias of an instance has one of its own.
 pub fn has_kind(sort: Option<Sort>) -> bool
     ensures { result ≡ spec.has_kind sort }
 {
@@ -47,17 +51,17 @@ pub fn has_kind(sort: Option<Sort>) -> bool
     }
 }
 
-/// Whether the interval of a number is within the limit. All else is.
+/// Whether the interval of a number is within the limit; true of any other sort.
 pub fn is_small(sort: Option<Sort>) -> bool
     ensures { result ≡ spec.is_small sort }
 {
     match sort {
-        Some(Sort::Number(None)) => false,
+        Some(Sort::Number(interval)) => is_narrow(interval),
         _ => true,
     }
 }
 
-/// Whether both are of one kind.
+/// Whether both have the same kind.
 pub fn is_same_kind(a: Option<Sort>, b: Option<Sort>) -> bool
     ensures { result ≡ spec.is_same_kind a b }
 {
@@ -69,27 +73,28 @@ pub fn is_same_kind(a: Option<Sort>, b: Option<Sort>) -> bool
     }
 }
 
-fn interval_of(sort: Sort) -> Option<Interval>
+/// The interval of a number; that of 0 for any other sort.
+fn interval_of(sort: Sort) -> Interval
     ensures { result ≡ spec.interval_of sort }
 {
     match sort {
         Sort::Number(interval) => interval,
-        _ => None,
+        _ => between(0, 0),
     }
 }
 
-/// What is known of one of two values.
+/// The sort of one of two values.
 fn join(a: Sort, b: Sort) -> Sort
     ensures { result ≡ spec.join a b }
 {
     match (a, b) {
         (Sort::Boolean, _) | (_, Sort::Boolean) => Sort::Boolean,
-        (Sort::Number(a), Sort::Number(b)) => Sort::Number(widened(a, b)),
+        (Sort::Number(a), Sort::Number(b)) => Sort::Number(hull(a, b)),
         _ => a,
     }
 }
 
-/// The same, where both are known.
+/// The sort of one of two values, if both sorts are known.
 pub fn join_both(a: Option<Sort>, b: Option<Sort>) -> Option<Sort>
     ensures { result ≡ spec.join_both a b }
 {
@@ -99,29 +104,30 @@ pub fn join_both(a: Option<Sort>, b: Option<Sort>) -> Option<Sort>
     }
 }
 
-/// What an operator makes of two.
-fn made_by(op: Op, a: Sort, b: Sort) -> Sort
-    ensures { result ≡ spec.made_by op a b }
+/// The result sort of an operator.
+fn result_sort(op: Op, a: Sort, b: Sort) -> Sort
+    ensures { result ≡ spec.result_sort op a b }
 {
     match op {
-        Op::Add | Op::Sub | Op::Mul | Op::Mod => {
-            Sort::Number(of_operator(op, interval_of(a), interval_of(b)))
-        }
+        Op::Add => Sort::Number(sum(interval_of(a), interval_of(b))),
+        Op::Sub => Sort::Number(difference(interval_of(a), interval_of(b))),
+        Op::Mul => Sort::Number(product(interval_of(a), interval_of(b))),
+        Op::Mod => Sort::Number(remainder(interval_of(b))),
         _ => Sort::Boolean,
     }
 }
 
-/// The same, where both are known.
+/// The result sort of an operator, if both sorts are known.
 pub fn binary_sort(op: Op, a: Option<Sort>, b: Option<Sort>) -> Option<Sort>
     ensures { result ≡ spec.binary_sort op a b }
 {
     match (a, b) {
-        (Some(a), Some(b)) => Some(made_by(op, a, b)),
+        (Some(a), Some(b)) => Some(result_sort(op, a, b)),
         _ => None,
     }
 }
 
-/// A truth value that is made of one thing, where that is known.
+/// Boolean, if the sort is known.
 pub fn truth_sort(sort: Option<Sort>) -> Option<Sort>
     ensures { result ≡ spec.truth_sort sort }
 {
@@ -131,9 +137,9 @@ pub fn truth_sort(sort: Option<Sort>) -> Option<Sort>
     }
 }
 
-/// What is made beside another thing, where that is known.
-pub fn beside(other: Option<Sort>, made: Option<Sort>) -> Option<Sort>
-    ensures { result ≡ spec.beside other made }
+/// The second sort, if both are known.
+pub fn if_known(other: Option<Sort>, made: Option<Sort>) -> Option<Sort>
+    ensures { result ≡ spec.if_known other made }
 {
     match other {
         Some(_) => made,
@@ -141,50 +147,57 @@ pub fn beside(other: Option<Sort>, made: Option<Sort>) -> Option<Sort>
     }
 }
 
-fn turned(sort: Sort) -> Sort
-    ensures { result ≡ spec.turned sort }
+fn negated(sort: Sort) -> Sort
+    ensures { result ≡ spec.negated sort }
 {
-    match interval_of(sort) {
-        Some(interval) => Sort::Number(opposite(interval)),
-        None => Sort::Number(None),
-    }
+    Sort::Number(opposite(interval_of(sort)))
 }
 
-/// What is known of a number with its sign turned.
+/// The sort of a number with the opposite sign.
 pub fn negated_sort(sort: Option<Sort>) -> Option<Sort>
     ensures { result ≡ spec.negated_sort sort }
 {
     match sort {
-        Some(sort) => Some(turned(sort)),
+        Some(sort) => Some(negated(sort)),
         None => None,
     }
 }
 
-/// What is known of the numbers from one up to another.
-pub fn span_sort(low: i64, high: i64) -> Sort
-    ensures { result ≡ spec.span_sort low high }
+/// The sort of the numbers from `low` up to `high`.
+pub fn interval_sort(low: i64, high: i64) -> Sort
+    ensures { result ≡ spec.interval_sort low high }
 {
-    Sort::Number(limited(low, high))
+    Sort::Number(between(low, high))
 }
 
-/// What is known of the values of a type.
+/// The sort of a definition with a right side of this sort.
+pub fn defined_sort(sort: Option<Sort>) -> Option<Sort>
+    ensures { result ≡ spec.defined_sort sort }
+{
+    match sort {
+        Some(Sort::Nothing) => Some(Sort::Alias),
+        _ => sort,
+    }
+}
+
+/// The sort of the values of a type.
 pub fn type_sort(type_: &SmvType) -> Sort
     ensures { result ≡ spec.type_sort type_.now }
 {
     match type_ {
         SmvType::Boolean => Sort::Boolean,
-        SmvType::Range { low, high } => span_sort(*low, *high),
+        SmvType::Range { low, high } => interval_sort(*low, *high),
         SmvType::Numbers(numbers) => Sort::Number(holding(numbers.as_slice())),
         SmvType::Symbols(_) => Sort::Symbol,
     }
 }
 
-/// Whether no dividend is below 0 and each divisor is above it.
+/// Whether the dividend is never below 0 and the divisor always above it.
 pub fn divides(dividend: Option<Sort>, divisor: Option<Sort>) -> bool
     ensures { result ≡ spec.divides dividend divisor }
 {
     match (dividend, divisor) {
-        (Some(Sort::Number(Some(a))), Some(Sort::Number(Some(b)))) => 0 <= a.low && 0 < b.low,
+        (Some(Sort::Number(a)), Some(Sort::Number(b))) => 0 <= a.low && 0 < b.low,
         _ => false,
     }
 }

@@ -1,60 +1,79 @@
--- What an item asks of numbers, it asks of the instances for which they stand.
-use Rattle.std.proofs.Common.{◌≡◌, ℕ, ◌<◌, ◌+◌, drop, get_or, List, [], ◌∷◌, ◌++◌, length, Option, Some, None, refl, ap, ◌∙◌}
-use Rattle.smv_ast.specs.declared.syntax.Expr.{Expr}
-use Rattle.smv_meaning.specs.declared.value.Value.{Value}
-use Rattle.smv_meaning.specs.declared.tree.Row.{Row}
-use Rattle.smv_meaning.specs.declared.worth.Net.{Net}
-use Rattle.smv_meaning.specs.declared.items.View.{View}
-use Rattle.smv_meaning.specs.Value.{Name, and_then}
-use Rattle.smv_meaning.specs.Senses.{Reading, sense_of}
-use Rattle.smv_meaning.specs.Values.{reading_in}
-use Rattle.smv_meaning.specs.Runs.{state_of, first_some, or_else}
-use Rattle.smv_meaning.specs.Worth.{row_reading, variable_at}
-use Rattle.smv_meaning.specs.Checking.{IsRightNet, stands}
-use Rattle.smv_meaning.specs.Items.{IsView, value_row, allows_row, own_row}
-use Rattle.smv_meaning.proofs.TreeLemmas.{row_at}
+-- The items of a module, and the names that it declares.
+use Rattle.std.proofs.Common.{◌≡◌, List, [], ◌∷◌, ◌++◌, map, refl, sym, ap, ◌∙◌}
 use Rattle.std.specs.List.{flat_map}
-use Rattle.smv_meaning.proofs.NumberLemmas.{row_reading_is}
-use Rattle.smv_meaning.proofs.WorthLemmas.{get_item}
-use Rattle.smv_meaning.proofs.OrderLemmas.{flat_next}
+use Rattle.std.proofs.lemmas.Grind.{flat_map-append}
+use Rattle.smv_ast.specs.declared.program.Declaration.{Declaration}
+use Rattle.smv_ast.specs.declared.program.Definition.{Definition}
+use Rattle.smv_ast.specs.declared.program.Assignment.{Assignment}
+use Rattle.smv_ast.specs.declared.program.Section.{Section}
+use Rattle.smv_ast.specs.declared.program.Section.TheVariants as section
+use Rattle.smv_ast.specs.declared.program.Module.{Module}
+use Rattle.smv_ast.specs.declared.program.Program.{Program}
+use Rattle.smv_meaning.specs.Instances.{Entry, Defined, entity_of, declaration_entry, definition_entry, section_entries, formals_from, entries}
+use Rattle.smv_meaning.specs.Items.{Item, Declares, Assigns, Defines, Constrains, declaration_item, definition_item, assignment_item, section_items, all_items, items, program_items}
+use Rattle.smv_meaning.proofs.MemberLemmas.{In, in_flat, from_flat}
 
-pub value_is : (net : Net) (row : ℕ) (now after : View) (e : Expr) → IsRightNet net → row < length net.tree.now.rows → IsView net now → IsView net after →
-    (sense_of e).value (row_reading net.program.now net.tree.now now.table.now row) (row_reading net.program.now net.tree.now after.table.now row) ≡ value_row net row now after e
-value_is net row now after e right h s t =
-    let p = row_reading_is net.program.now net.tree.now right now.written.now now.table.now row s h in
-    let q = row_reading_is net.program.now net.tree.now right after.written.now after.table.now row t h in
-    ap (λ (r : Reading). (sense_of e).value r (row_reading net.program.now net.tree.now after.table.now row)) p
-    ∙ ap (λ (r : Reading). (sense_of e).value (reading_in net.program.now (state_of now.written.now) (stands net.tree.now row)) r) q
+flat_map_flat_map : {A B C : Type 0} (g : B → List C) (f : A → List B) (xs : List A) → flat_map g (flat_map f xs) ≡ flat_map (λ x. flat_map g (f x)) xs
+flat_map_flat_map g f [] = refl
+flat_map_flat_map g f (x ∷ xs) = flat_map-append g (f x) (flat_map f xs) ∙ ap (λ ys. flat_map g (f x) ++ ys) (flat_map_flat_map g f xs)
 
-pub allows_is : (net : Net) (row : ℕ) (now after : View) (e : Expr) (v : Value) → IsRightNet net → row < length net.tree.now.rows → IsView net now → IsView net after →
-    (sense_of e).allows (row_reading net.program.now net.tree.now now.table.now row) (row_reading net.program.now net.tree.now after.table.now row) v ≡ allows_row net row now after e v
-allows_is net row now after e v right h s t =
-    let p = row_reading_is net.program.now net.tree.now right now.written.now now.table.now row s h in
-    let q = row_reading_is net.program.now net.tree.now right after.written.now after.table.now row t h in
-    ap (λ (r : Reading). (sense_of e).allows r (row_reading net.program.now net.tree.now after.table.now row) v) p
-    ∙ ap (λ (r : Reading). (sense_of e).allows (reading_in net.program.now (state_of now.written.now) (stands net.tree.now row)) r v) q
+flat_map_same : {A B : Type 0} (f g : A → List B) → ((x : A) → f x ≡ g x) → (xs : List A) → flat_map f xs ≡ flat_map g xs
+flat_map_same f g same [] = refl
+flat_map_same f g same (x ∷ xs) = ap (λ ys. ys ++ flat_map f xs) (same x) ∙ ap (λ ys. g x ++ ys) (flat_map_same f g same xs)
 
-pub own_is : (net : Net) (row : ℕ) (view : View) (name : Name) → row < length net.tree.now.rows → variable_at net.tree.now view.written.now (record { place = row; name = name }) ≡ own_row net row view name
-own_is net row view name h = let r = row_at net.tree.now.rows row h in ap (λ (o : Option Row). and_then o (λ row'. own_row net row view name)) r.1
+-- ---- lists of items
 
--- ---- the first that is made
+-- the items of two lists of sections one after the other
+pub items_append : (xs ys : List Section) → all_items (xs ++ ys) ≡ all_items xs ++ all_items ys
+items_append xs ys = flat_map-append section_items xs ys
 
-module _ {A B : Type 0} (f : A → Option B) where
-  pub first_append : (xs ys : List A) → first_some f (xs ++ ys) ≡ or_else (first_some f xs) (first_some f ys)
-  first_append [] ys = refl
-  first_append (x ∷ xs) ys = at (first_append xs ys) (f x)
-    where
-      at : first_some f (xs ++ ys) ≡ or_else (first_some f xs) (first_some f ys) → (o : Option B) → or_else o (first_some f (xs ++ ys)) ≡ or_else (or_else o (first_some f xs)) (first_some f ys)
-      at h None = h
-      at h (Some b) = refl
+-- an item of a section of a module is an item of the module
+pub item_of_section : (m : Module) (s : Section) (item : Item) → In s m.sections → In item (section_items s) → In item (items m)
+item_of_section m s item = in_flat section_items m.sections s item
 
-  module _ {X : Type 0} (g : X → List A) where
-    pub first_here : (xs : List X) (k : ℕ) (x : X) (b : B) → k < length xs → x ≡ get_or xs k x → first_some f (g x) ≡ Some b → first_some f (flat_map g (drop k xs)) ≡ Some b
-    first_here xs k x b h e s =
-        ap (first_some f) (flat_next g xs k x (get_item xs k x h e)) ∙ (first_append (g x) (flat_map g (drop (k + 1) xs))
-        ∙ ap (λ (o : Option B). or_else o (first_some f (flat_map g (drop (k + 1) xs)))) s)
+-- each item of a module is an item of one of its sections
+pub section_of_item : (m : Module) (item : Item) → In item (items m) → (s : Section) × In s m.sections × In item (section_items s)
+section_of_item m = from_flat section_items m.sections
 
-    pub first_behind : (xs : List X) (k : ℕ) (x : X) → k < length xs → x ≡ get_or xs k x → first_some f (g x) ≡ None → first_some f (flat_map g (drop k xs)) ≡ first_some f (flat_map g (drop (k + 1) xs))
-    first_behind xs k x h e s =
-        ap (first_some f) (flat_next g xs k x (get_item xs k x h e)) ∙ (first_append (g x) (flat_map g (drop (k + 1) xs))
-        ∙ ap (λ (o : Option B). or_else o (first_some f (flat_map g (drop (k + 1) xs)))) s)
+-- each item of a program is an item of one of its modules
+pub module_of_item : (program : Program) (item : Item) → In item (program_items program) → (m : Module) × In m program.modules × In item (items m)
+module_of_item program = from_flat items program.modules
+
+-- ---- the names that items declare
+
+-- the entry of an item, if it declares a name
+abbrev pub item_entries : Item → List Entry
+item_entries (Declares name what at) = record { name = name; entity = entity_of what } ∷ []
+item_entries (Assigns left name right at) = []
+item_entries (Defines name right at) = record { name = name; entity = Defined right } ∷ []
+item_entries (Constrains r e at) = []
+
+declared_entries : (ds : List Declaration) → flat_map item_entries (map declaration_item ds) ≡ map declaration_entry ds
+declared_entries [] = refl
+declared_entries (d ∷ ds) = ap (λ es. declaration_entry d ∷ es) (declared_entries ds)
+
+defined_entries : (ds : List Definition) → flat_map item_entries (map definition_item ds) ≡ map definition_entry ds
+defined_entries [] = refl
+defined_entries (d ∷ ds) = ap (λ es. definition_entry d ∷ es) (defined_entries ds)
+
+no_entries : (xs : List Assignment) → flat_map item_entries (map assignment_item xs) ≡ []
+no_entries [] = refl
+no_entries (x ∷ xs) = no_entries xs
+
+section_is : (s : Section) → flat_map item_entries (section_items s) ≡ section_entries s
+section_is (section.Vars ds) = declared_entries ds
+section_is (section.Assigns xs) = no_entries xs
+section_is (section.Defines ds) = defined_entries ds
+section_is (section.Init e at) = refl
+section_is (section.Invar e at) = refl
+section_is (section.Trans e at) = refl
+section_is (section.InvarSpec e at) = refl
+
+-- the names of a module are its formals and the names that its items declare, in their order
+pub entries_of_items : (m : Module) → entries m ≡ formals_from 0 m.formals ++ flat_map item_entries (items m)
+entries_of_items m =
+    ap (λ es. formals_from 0 m.formals ++ es) (sym (flat_map_flat_map item_entries section_items m.sections ∙ flat_map_same (λ s. flat_map item_entries (section_items s)) section_entries section_is m.sections))
+
+-- a name that an item declares comes from an item
+pub item_of_entry : (m : Module) (e : Entry) → In e (flat_map item_entries (items m)) → (item : Item) × In item (items m) × In e (item_entries item)
+item_of_entry m = from_flat item_entries (items m)

@@ -1,16 +1,23 @@
-pub mod LeastLemmas
+pub mod FaultLemmas
 pub mod NamesLemmas
 pub mod ScopeLemmas
-pub mod SenseLemmas
-pub mod TreeLemmas
+pub mod DenotationLemmas
+pub mod InstanceTableLemmas
 pub mod SlotLemmas
-pub mod WorthLemmas
+pub mod ValuationLemmas
 pub mod NumberLemmas
 pub mod OrderLemmas
 pub mod CountLemmas
 pub mod MentionLemmas
-pub mod ItemLemmas
+pub mod FirstFault
+pub mod MetItemLemmas
+pub mod ItemIndexLemmas
 pub mod SectionLemmas
 pub mod RunLemmas
 pub mod RunLaw
 mod Examples
+pub mod MemberLemmas
+pub mod ItemLemmas
+pub mod DepthLaw
+pub mod AgreementLaw
+mod ItemExamples

@@ -1,4 +1,4 @@
--- References to paths, one more.
+-- The paths of a list of references, after a push.
 use Rattle.std.proofs.Common.{◌≡◌, List, [], ◌∷◌, ◌++◌}
 use Rattle.std.proofs.lemmas.List.{map-append}
 use denote.Ref.{Bor}

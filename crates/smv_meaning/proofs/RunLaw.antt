@@ -1,4 +1,4 @@
--- The answer on states is Run exactly where they are a run.
+-- The check of a list of states answers Run exactly where they are a run.
 use Rattle.std.proofs.Common.{◌≡◌, ◌↔◌, ℕ, suc, ◌<◌, Bool, true, false, ◌&&◌, List, [], ◌∷◌, length, map, Option, Some, None, is_none, All, refl, sym, ap, ◌∙◌, arith}
 use Rattle.std.specs.List.{list_all}
 use Rattle.std.specs.Cmp.Derive.{both_true}
@@ -7,9 +7,10 @@ use Rattle.smv_ast.specs.declared.program.Program.{Program}
 use Rattle.smv_meaning.specs.declared.run.RunState.{RunState}
 use Rattle.smv_meaning.specs.declared.run.RunAnswer.{RunAnswer}
 use Rattle.smv_meaning.specs.declared.run.RunAnswer.TheVariants as answer
-use Rattle.smv_meaning.specs.Instances.{Place, module_at, instances}
+use Rattle.smv_meaning.specs.Instances.{Instance, module_at, instances}
+use Rattle.smv_meaning.specs.Items.{Item, items, at_of}
 use Rattle.smv_meaning.specs.Values.{State}
-use Rattle.smv_meaning.specs.Runs.{Demand, begins, stays, steps, each_item, items, meets, told, or_else, first_some, broken_at, first_broken, answer_from, answer_of, state_of, IsState, GoesOn, IsRun}
+use Rattle.smv_meaning.specs.Runs.{begins, stays, steps, each_item, meets, unless_met, or_else, first_fault, broken_at, first_broken, answer_from, answer_of, state_of, IsState, GoesOn, IsRun}
 
 -- ---- tests on lists
 
@@ -31,32 +32,34 @@ all_both : {A : Type 0} (p q : A → Bool) (xs : List A) → list_all (λ a. p a
 all_both p q [] = refl
 all_both p q (x ∷ more) = ap (λ b. (p x && q x) && b) (all_both p q more) ∙ in_pairs (p x) (q x) (list_all p more) (list_all q more)
 
--- ---- what is told
+-- ---- defined values
 
-none_told : (b : Bool) (at : Span) → is_none (told b at) ≡ b
-none_told true at = refl
-none_told false at = refl
+none_unmet : (b : Bool) (at : Span) → is_none (unless_met b at) ≡ b
+none_unmet true at = refl
+none_unmet false at = refl
 
 none_else : {B : Type 0} (a b : Option B) → is_none (or_else a b) ≡ (is_none a && is_none b)
 none_else None b = refl
 none_else (Some x) b = refl
 
-none_made : {A B : Type 0} (make : A → Option B) (xs : List A) → is_none (first_some make xs) ≡ list_all (λ a. is_none (make a)) xs
-none_made make [] = refl
-none_made make (x ∷ more) = none_else (make x) (first_some make more) ∙ ap (λ b. is_none (make x) && b) (none_made make more)
+none_known : {A B : Type 0} (transfer : A → Option B) (xs : List A) → is_none (first_fault transfer xs) ≡ list_all (λ a. is_none (transfer a)) xs
+none_known transfer [] = refl
+none_known transfer (x ∷ more) = none_else (transfer x) (first_fault transfer more) ∙ ap (λ b. is_none (transfer x) && b) (none_known transfer more)
 
 -- ---- one state
 
--- the answer on states of which the first breaks this item, if any, by the answer on those after it
+-- the answer on a list of states, given the first broken item of its first state and the answer on
+-- the rest
 abbrev answer_with : ℕ → RunAnswer → Option Span → RunAnswer
-answer_with step rest o = elim o as (λ o. RunAnswer) [ Some at ↦ answer.Breaks step at | None ↦ rest ]
+answer_with step tail o = elim o as (λ o. RunAnswer) [ Some at ↦ answer.Breaks step at | None ↦ tail ]
 
--- it says Run exactly where two tests on the first state pass and the rest is right
-first_passes : {S P : Type 0} (step : ℕ) (rest : RunAnswer) (o : Option Span) (a b : Bool) → is_none o ≡ (a && b) → S → ((rest ≡ answer.Run) ↔ P) → (answer_with step rest o ≡ answer.Run) ↔ (S × (a ≡ true) × (b ≡ true) × P)
-first_passes step rest None a b none s law =
+-- the answer is Run exactly where two tests on the first state pass and the answer on the rest is
+-- Run
+first_passes : {S P : Type 0} (step : ℕ) (tail : RunAnswer) (o : Option Span) (a b : Bool) → is_none o ≡ (a && b) → S → ((tail ≡ answer.Run) ↔ P) → (answer_with step tail o ≡ answer.Run) ↔ (S × (a ≡ true) × (b ≡ true) × P)
+first_passes step tail None a b none s law =
     let parts = both_parts a b (sym none) in
     (λ e. (s, parts.0, parts.1, law.0 e), λ h. law.1 h.3)
-first_passes step rest (Some at) a b none s law = (λ e. cc, λ h. let both : (a && b) ≡ true = both_true h.1 h.2 in cc)
+first_passes step tail (Some at) a b none s law = (λ e. cc, λ h. let both : (a && b) ≡ true = both_true h.1 h.2 in cc)
 
 -- ---- items
 
@@ -64,43 +67,45 @@ module _ (program : Program) where
   -- no item is broken exactly where each is met
   none_broken : (before : Option State) (s : State) → is_none (first_broken program before s) ≡ each_item program (meets program before s)
   none_broken before s =
-      none_made (λ place. first_some (broken_at program before s place) (items (module_at program place))) (instances program)
-      ∙ all_alike (λ place. is_none (first_some (broken_at program before s place) (items (module_at program place)))) (λ place. list_all (λ item. meets program before s place item.demand) (items (module_at program place))) in_instance (instances program)
+      none_known (λ instance. first_fault (broken_at program before s instance) (items (module_at program instance))) (instances program)
+      ∙ all_alike (λ instance. is_none (first_fault (broken_at program before s instance) (items (module_at program instance)))) (λ instance. list_all (λ item. meets program before s instance item) (items (module_at program instance))) in_instance (instances program)
     where
-      in_instance : (place : Place) → is_none (first_some (broken_at program before s place) (items (module_at program place))) ≡ list_all (λ item. meets program before s place item.demand) (items (module_at program place))
-      in_instance place =
-          none_made (broken_at program before s place) (items (module_at program place))
-          ∙ all_alike (λ item. is_none (broken_at program before s place item)) (λ item. meets program before s place item.demand) (λ item. none_told (meets program before s place item.demand) item.at) (items (module_at program place))
+      in_instance : (instance : Instance) → is_none (first_fault (broken_at program before s instance) (items (module_at program instance))) ≡ list_all (λ item. meets program before s instance item) (items (module_at program instance))
+      in_instance instance =
+          none_known (broken_at program before s instance) (items (module_at program instance))
+          ∙ all_alike (λ item. is_none (broken_at program before s instance item)) (λ item. meets program before s instance item) (λ item. none_unmet (meets program before s instance item) (at_of item)) (items (module_at program instance))
 
-  -- each item passes two tests where each passes the one and each the other
-  each_both : (f g : Place → Demand → Bool) → each_item program (λ place d. f place d && g place d) ≡ (each_item program f && each_item program g)
+  -- each item passes both tests exactly where each passes the one and each the other
+  each_both : (f g : Instance → Item → Bool) → each_item program (λ instance d. f instance d && g instance d) ≡ (each_item program f && each_item program g)
   each_both f g =
-      all_alike (λ place. list_all (λ item. f place item.demand && g place item.demand) (items (module_at program place))) (λ place. list_all (λ item. f place item.demand) (items (module_at program place)) && list_all (λ item. g place item.demand) (items (module_at program place)))
-      (λ place. all_both (λ item. f place item.demand) (λ item. g place item.demand) (items (module_at program place))) (instances program)
-      ∙ all_both (λ place. list_all (λ item. f place item.demand) (items (module_at program place))) (λ place. list_all (λ item. g place item.demand) (items (module_at program place))) (instances program)
+      all_alike (λ instance. list_all (λ item. f instance item && g instance item) (items (module_at program instance))) (λ instance. list_all (λ item. f instance item) (items (module_at program instance)) && list_all (λ item. g instance item) (items (module_at program instance)))
+      (λ instance. all_both (λ item. f instance item) (λ item. g instance item) (items (module_at program instance))) (instances program)
+      ∙ all_both (λ instance. list_all (λ item. f instance item) (items (module_at program instance))) (λ instance. list_all (λ item. g instance item) (items (module_at program instance))) (instances program)
 
-  -- nothing is broken in a state exactly where it is a first one and inside
-  begins_right : (s : State) → is_none (first_broken program None s) ≡ (each_item program (λ place. begins program place s) && each_item program (λ place. stays program place s))
-  begins_right s = none_broken None s ∙ each_both (λ place. begins program place s) (λ place. stays program place s)
+  -- nothing is broken in a first state exactly where it meets the init constraints and the
+  -- invariants
+  begins_right : (s : State) → is_none (first_broken program None s) ≡ (each_item program (λ instance. begins program instance s) && each_item program (λ instance. stays program instance s))
+  begins_right s = none_broken None s ∙ each_both (λ instance. begins program instance s) (λ instance. stays program instance s)
 
-  -- nothing is broken in a state behind another exactly where it is inside and follows by a step
-  goes_right : (s t : State) → is_none (first_broken program (Some s) t) ≡ (each_item program (λ place. stays program place t) && each_item program (λ place. steps program place s t))
-  goes_right s t = none_broken (Some s) t ∙ each_both (λ place. stays program place t) (λ place. steps program place s t)
+  -- nothing is broken in a later state exactly where it meets the invariants and follows by a step
+  goes_right : (s t : State) → is_none (first_broken program (Some s) t) ≡ (each_item program (λ instance. stays program instance t) && each_item program (λ instance. steps program instance s t))
+  goes_right s t = none_broken (Some s) t ∙ each_both (λ instance. stays program instance t) (λ instance. steps program instance s t)
 
   -- ---- answers
 
   goes_on : (step : ℕ) (s : State) (states : List State) → All (IsState program) states → (answer_from program step (Some s) states ≡ answer.Run) ↔ GoesOn program s states
   goes_on step s [] are = (λ e. tt, λ goes. refl)
   goes_on step s (t ∷ more) are =
-      first_passes step (answer_from program (suc step) (Some t) more) (first_broken program (Some s) t) (each_item program (λ place. stays program place t)) (each_item program (λ place. steps program place s t))
+      first_passes step (answer_from program (suc step) (Some t) more) (first_broken program (Some s) t) (each_item program (λ instance. stays program instance t)) (each_item program (λ instance. steps program instance s t))
       (goes_right s t) (are 0 t (omega arith)) (goes_on (suc step) t more (λ k d h. are (suc k) d (omega arith)))
 
   is_run : (s : State) (more : List State) → All (IsState program) (s ∷ more) → (answer_from program 0 None (s ∷ more) ≡ answer.Run) ↔ IsRun program (s ∷ more)
   is_run s more are =
-      first_passes 0 (answer_from program 1 (Some s) more) (first_broken program None s) (each_item program (λ place. begins program place s)) (each_item program (λ place. stays program place s))
+      first_passes 0 (answer_from program 1 (Some s) more) (first_broken program None s) (each_item program (λ instance. begins program instance s)) (each_item program (λ instance. stays program instance s))
       (begins_right s) (are 0 s (omega arith)) (goes_on 1 s more (λ k d h. are (suc k) d (omega arith)))
 
-  -- the answer on a written run says Run exactly where its states, if there are any and each is one, are a run
+  -- the answer on a written run is Run exactly where its states are a run, if there are any and
+  -- each is a state
   pub run_law : (states : List RunState) (a : RunAnswer) → a ≡ answer_of program states → 0 < length states → All (IsState program) (map state_of states) → (a ≡ answer.Run) ↔ IsRun program (map state_of states)
   run_law [] a e some are = absurd (omega (arith, some))
   run_law (s ∷ more) a e some are =

@@ -1,33 +1,34 @@
--- The entries of a module as the code holds them, by references into the program.
+-- The entries of a module, as represented by references into the program.
 use Rattle.std.specs.Prelude.{ℕ, suc, if◌then◌else◌, List, [], ◌∷◌, map, Option, Some, None, find}
 use Rattle.std.specs.Option.{option_map}
 use Rattle.std.specs.Str.{bytes_eq}
 use Rattle.smv_meaning.specs.declared.entries.Entry.{Entry as Held}
-use Rattle.smv_meaning.specs.declared.entries.Meaning.{Meaning as HeldMeaning}
-use Rattle.smv_meaning.specs.declared.entries.Meaning.TheVariants as held
-use Rattle.smv_meaning.specs.Instances.{Meaning, Variable, Inner, Defined, Formal, Entry}
+use Rattle.smv_meaning.specs.declared.entries.Entity.{Entity as HeldEntity}
+use Rattle.smv_meaning.specs.declared.entries.Entity.TheVariants as held
+use Rattle.smv_meaning.specs.Instances.{Entity, Variable, Inner, Defined, Formal, Entry}
 use Rattle.smv_meaning.specs.Value.{Name, and_then}
 
--- what a held meaning says
-abbrev pub meaning_seen : HeldMeaning → Meaning
-meaning_seen (held.Variable type) = Variable type.now
-meaning_seen (held.Inner called actuals) = Inner called.now actuals.now
-meaning_seen (held.Defined right) = Defined right.now
-meaning_seen (held.Formal k) = Formal k
+-- the entity that a Rust value represents
+abbrev pub entity_view : HeldEntity → Entity
+entity_view (held.Variable type) = Variable type.now
+entity_view (held.Inner called actuals) = Inner called.now actuals.now
+entity_view (held.Defined right) = Defined right.now
+entity_view (held.Formal k) = Formal k
 
--- what a held entry says
-abbrev pub seen : Held → Entry
-seen e = record { name = e.name.now; meaning = meaning_seen e.meaning }
+-- the entry that a Rust value represents
+abbrev pub entry_view : Held → Entry
+entry_view e = record { name = e.name.now; entity = entity_view e.entity }
 
--- what held entries say
-abbrev pub all_seen : List Held → List Entry
-all_seen = map seen
+-- the entries that Rust values represent
+abbrev pub entries_view : List Held → List Entry
+entries_view = map entry_view
 
--- where the first entry of a name stands
-abbrev pub first_place : Name → List Entry → Option ℕ
-first_place name [] = None
-first_place name (e ∷ more) = if bytes_eq e.name name then Some 0 else option_map suc (first_place name more)
+-- the index of the first entry of a name
+abbrev pub first_index : Name → List Entry → Option ℕ
+first_index name [] = None
+first_index name (e ∷ more) = if bytes_eq e.name name then Some 0 else option_map suc
+    (first_index name more)
 
--- what a name stands for among these entries; of two equal names the first counts
-abbrev pub meaning_among : List Entry → Name → Option Meaning
-meaning_among es name = and_then (find (λ e. bytes_eq e.name name) es) (λ e. Some e.meaning)
+-- the entity of a name; of two equal names the first takes precedence
+abbrev pub entity_among : List Entry → Name → Option Entity
+entity_among es name = and_then (find (λ e. bytes_eq e.name name) es) (λ e. Some e.entity)

@@ -1,4 +1,4 @@
--- What the names of a module stand for, and the instances of a program.
+-- The entities of a module, and the instances of a program with the bindings of their names.
 use Rattle.std.specs.Prelude.{ℕ, zero, suc, Bool, if◌then◌else◌, List, [], ◌∷◌, ◌++◌, length, nat_lt, map, Option, Some, None, codes, slice_get, find}
 use Rattle.std.specs.List.{flat_map}
 use Rattle.std.specs.Str.{bytes_eq}
@@ -6,7 +6,7 @@ use Rattle.smv_ast.specs.PrintedExpr.{joined}
 use Rattle.smv_ast.specs.declared.syntax.Expr.{Expr}
 use Rattle.smv_ast.specs.declared.syntax.SmvType.{SmvType}
 use Rattle.smv_ast.specs.declared.program.Declared.{Declared}
-use Rattle.smv_ast.specs.declared.program.Declared.TheVariants.{Plain, Instance}
+use Rattle.smv_ast.specs.declared.program.Declared.TheVariants.{Plain, Instance as Submodule}
 use Rattle.smv_ast.specs.declared.program.Declaration.{Declaration}
 use Rattle.smv_ast.specs.declared.program.Definition.{Definition}
 use Rattle.smv_ast.specs.declared.program.Section.{Section}
@@ -14,35 +14,35 @@ use Rattle.smv_ast.specs.declared.program.Section.TheVariants as section
 use Rattle.smv_ast.specs.declared.program.Module.{Module}
 use Rattle.smv_ast.specs.declared.program.Program.{Program}
 use Rattle.smv_meaning.specs.Value.{Name, and_then}
-use Rattle.smv_meaning.specs.Paths.{Spot, Meant, IsVariable, IsInstance, IsDefine, IsFormal, IsNothing}
+use Rattle.smv_meaning.specs.Paths.{QualifiedName, Binding, IsVariable, IsInstance, IsDefine, IsFormal, IsNothing}
 
 -- ---- the names of a module
 
--- what a name of a module stands for: a variable of a type, an instance of a module with its actuals, the right side of a
--- DEFINE, or the formal of a number
-pub data Meaning : Type 0 where
-  Variable : SmvType → Meaning
-  Inner : Name → List Expr → Meaning
-  Defined : Expr → Meaning
-  Formal : ℕ → Meaning
+-- the entity of a name in a module: a variable of a type, an instance of a module with its actuals,
+-- a definition with its right side, or the k-th formal
+pub data Entity : Type 0 where
+  Variable : SmvType → Entity
+  Inner : Name → List Expr → Entity
+  Defined : Expr → Entity
+  Formal : ℕ → Entity
 
--- a name with what it stands for
+-- a name with its entity
 pub record Entry : Type 0 where
   pub name : Name
-  pub meaning : Meaning
+  pub entity : Entity
 
--- what a declaration of a VAR section declares
-abbrev pub meaning_of : Declared → Meaning
-meaning_of (Plain type) = Variable type
-meaning_of (Instance called actuals) = Inner called actuals
+-- the entity that a VAR declaration declares
+abbrev pub entity_of : Declared → Entity
+entity_of (Plain type) = Variable type
+entity_of (Submodule called actuals) = Inner called actuals
 
 -- the entry of a declaration
 abbrev pub declaration_entry : Declaration → Entry
-declaration_entry d = record { name = d.name; meaning = meaning_of d.what }
+declaration_entry d = record { name = d.name; entity = entity_of d.what }
 
 -- the entry of a definition
 abbrev pub definition_entry : Definition → Entry
-definition_entry d = record { name = d.name; meaning = Defined d.right }
+definition_entry d = record { name = d.name; entity = Defined d.right }
 
 -- the names that a section declares, in the order of the text
 abbrev pub section_entries : Section → List Entry
@@ -50,43 +50,46 @@ section_entries (section.Vars declarations) = map declaration_entry declarations
 section_entries (section.Defines definitions) = map definition_entry definitions
 section_entries s = []
 
--- the formals, numbered upwards
+-- the formals, numbered in their order
 abbrev pub formals_from : ℕ → List Name → List Entry
 formals_from k [] = []
-formals_from k (name ∷ more) = record { name = name; meaning = Formal k } ∷ formals_from (suc k) more
+formals_from k (name ∷ more) = record { name = name; entity = Formal k } ∷ formals_from (suc k) more
 
--- the names that a module declares: its formals, then those of its sections, in the order of the text
+-- the names that a module declares: its formals, then the names of its sections, in the order of
+-- the text
 abbrev pub entries : Module → List Entry
 entries m = formals_from 0 m.formals ++ flat_map section_entries m.sections
 
--- what a name stands for in a module; of two equal names the first counts
-abbrev pub what : Module → Name → Option Meaning
-what m name = and_then (find (λ e. bytes_eq e.name name) (entries m)) (λ e. Some e.meaning)
+-- the entity of a name in a module; of two equal names the first takes precedence
+abbrev pub lookup : Module → Name → Option Entity
+lookup m name = and_then (find (λ e. bytes_eq e.name name) (entries m)) (λ e. Some e.entity)
 
 -- ---- instances
 
--- an instance: that of `main`, or the one that an outer instance declares under a name, with the name of its module
-pub data Place : Type 0 where
-  Main : Place
-  Within : Place → Name → Name → Place
+-- an instance: `main`, or the instance that an outer instance declares under a name, with the name
+-- of its module
+pub data Instance : Type 0 where
+  Main : Instance
+  Within : Instance → Name → Name → Instance
 
 -- the name of an instance's module
-abbrev pub called_at : Place → Name
+abbrev pub called_at : Instance → Name
 called_at Main = codes "main"
 called_at (Within outer name called) = called
 
 -- the path of an instance from `main`
-abbrev pub path_of : Place → List Name
+abbrev pub path_of : Instance → List Name
 path_of Main = []
 path_of (Within outer name called) = path_of outer ++ name ∷ []
 
 -- the text of an instance: `main`, or `main.` and its path
-abbrev pub place_text : Place → List ℕ
-place_text place = joined (codes ".") (codes "main" ∷ path_of place)
+abbrev pub instance_text : Instance → List ℕ
+instance_text instance = joined (codes ".") (codes "main" ∷ path_of instance)
 
--- the module, or one that declares nothing where there is none
+-- the module, or an empty one where there is none
 abbrev pub or_empty : Name → Option Module → Module
-or_empty name None = record { name = name; formals = []; sections = []; at = record { file = 0; at = 0 } }
+or_empty name None = record
+    { name = name; formals = []; sections = []; at = record { file = 0; at = 0 } }
 or_empty name (Some m) = m
 
 -- the first module of a name
@@ -94,67 +97,76 @@ abbrev pub module_named : Program → Name → Module
 module_named program name = or_empty name (find (λ m. bytes_eq m.name name) program.modules)
 
 -- the module of an instance
-abbrev pub module_at : Program → Place → Module
-module_at program place = module_named program (called_at place)
+abbrev pub module_at : Program → Instance → Module
+module_at program instance = module_named program (called_at instance)
 
--- what a name stands for in an instance
-abbrev pub meaning_at : Program → Place → Name → Option Meaning
-meaning_at program place name = what (module_at program place) name
+-- the entity of a name in an instance
+abbrev pub entity_at : Program → Instance → Name → Option Entity
+entity_at program instance name = lookup (module_at program instance) name
 
--- how many instances stand around an instance
-abbrev pub depth_of : Place → ℕ
+-- the number of instances that enclose an instance
+abbrev pub depth_of : Instance → ℕ
 depth_of Main = 0
 depth_of (Within outer name called) = suc (depth_of outer)
 
--- whether there are instances below one: where no module leads back to itself, none lies deeper than there are modules
-abbrev pub goes_deeper : Program → Place → Bool
-goes_deeper program place = nat_lt (depth_of place) (length program.modules)
+-- whether an instance has instances below it: without recursive modules none lies deeper than the
+-- number of modules
+abbrev pub goes_deeper : Program → Instance → Bool
+goes_deeper program instance = nat_lt (depth_of instance) (length program.modules)
 
 -- the instance that an entry declares, if it does
-abbrev pub inner_of : Program → Place → Name → Meaning → List Place
-inner_of program place name (Inner called actuals) = if goes_deeper program place then Within place name called ∷ [] else []
-inner_of program place name m = []
+abbrev pub inner_of : Program → Instance → Name → Entity → List Instance
+inner_of program instance name (Inner called actuals) = if goes_deeper program instance then Within
+    instance name called ∷ [] else []
+inner_of program instance name m = []
 
--- the instances that an instance declares, in the order of the text
-abbrev pub inner_places : Program → Place → List Place
-inner_places program place = flat_map (λ e. inner_of program place e.name e.meaning) (entries (module_at program place))
+-- the instances that an instance declares, in text order
+abbrev pub inner_instances : Program → Instance → List Instance
+inner_instances program instance = flat_map (λ e. inner_of program instance e.name e.entity)
+    (entries (module_at program instance))
 
--- an instance, then each that it declares with all below it, down to a depth
-abbrev pub from_place : ℕ → Program → Place → List Place
-from_place zero program place = place ∷ []
-from_place (suc depth) program place = place ∷ flat_map (from_place depth program) (inner_places program place)
+-- the subtree of an instance in preorder, down to a depth
+abbrev pub subtree : ℕ → Program → Instance → List Instance
+subtree zero program instance = instance ∷ []
+subtree (suc depth) program instance = instance ∷ flat_map (subtree depth program)
+    (inner_instances program instance)
 
--- the instances of a program, an instance before those that it declares
-abbrev pub instances : Program → List Place
-instances program = from_place (length program.modules) program Main
+-- the instances of a program, each before those that it declares
+abbrev pub instances : Program → List Instance
+instances program = subtree (length program.modules) program Main
 
 -- ---- actuals
 
 -- the actuals of an instance's declaration
-abbrev pub actuals_of : Option Meaning → List Expr
+abbrev pub actuals_of : Option Entity → List Expr
 actuals_of (Some (Inner called actuals)) = actuals
 actuals_of m = []
 
--- what the formal of a number is where an instance is declared so: an actual, read in the outer instance
-abbrev pub formal_by : {P : Type 0} → P → Option Meaning → ℕ → Meant P
-formal_by outer m k = elim (slice_get (actuals_of m) k) [ None ↦ IsNothing | Some a ↦ IsFormal outer a ]
+-- the binding of the k-th formal of an instance with this declaration: its actual, read in the
+-- outer instance
+abbrev pub formal_by : {P : Type 0} → P → Option Entity → ℕ → Binding P
+formal_by outer m k = elim (slice_get (actuals_of m) k)
+    [ None ↦ IsNothing | Some a ↦ IsFormal outer a ]
 
--- what the formal of a number is in an instance
-abbrev pub formal_at : Program → Place → ℕ → Meant Place
+-- the binding of the k-th formal of an instance
+abbrev pub formal_at : Program → Instance → ℕ → Binding Instance
 formal_at program Main k = IsNothing
-formal_at program (Within outer name called) k = formal_by outer (meaning_at program outer name) k
+formal_at program (Within outer name called) k = formal_by outer (entity_at program outer name) k
 
--- what a name of a meaning is: of an instance there is one where it goes deeper
-abbrev pub meant_by : {P : Type 0} → Bool → (Name → P) → (ℕ → Meant P) → Meaning → Meant P
-meant_by deeper inner formal (Variable t) = IsVariable
-meant_by deeper inner formal (Inner called actuals) = if deeper then IsInstance (inner called) else IsNothing
-meant_by deeper inner formal (Defined right) = IsDefine right
-meant_by deeper inner formal (Formal k) = formal k
+-- the binding of a name by its entity; an instance only where instances go deeper
+abbrev pub binding_by : {P : Type 0} → Bool → (Name → P) → (ℕ → Binding P) → Entity → Binding P
+binding_by deeper inner formal (Variable t) = IsVariable
+binding_by deeper inner formal (Inner called actuals) = if deeper then IsInstance (inner called)
+    else IsNothing
+binding_by deeper inner formal (Defined right) = IsDefine right
+binding_by deeper inner formal (Formal k) = formal k
 
--- what a name of a meaning is in an instance
-abbrev pub meant_in : Program → Place → Name → Meaning → Meant Place
-meant_in program place name m = meant_by (goes_deeper program place) (Within place name) (formal_at program place) m
+-- the binding of a name in an instance, by its entity
+abbrev pub binding_in : Program → Instance → Name → Entity → Binding Instance
+binding_in program instance name m = binding_by (goes_deeper program instance)
+    (Within instance name) (formal_at program instance) m
 
--- what the names of the instances of a program are
-abbrev pub meant_at : Program → Spot Place → Option (Meant Place)
-meant_at program spot = and_then (meaning_at program spot.place spot.name) (λ m. Some (meant_in program spot.place spot.name m))
+-- the bindings of the names of the instances of a program
+abbrev pub binding_at : Program → QualifiedName Instance → Option (Binding Instance)
+binding_at program qualified = and_then (entity_at program qualified.instance qualified.name)
+    (λ m. Some (binding_in program qualified.instance qualified.name m))

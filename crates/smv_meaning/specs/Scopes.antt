@@ -1,4 +1,4 @@
--- Modules with their names, found by name.
+-- Modules with their names, looked up by name.
 use Rattle.std.specs.Prelude.{◌≡◌, ℕ, List, [], map, find, slice_get, Option, Some, None}
 use Rattle.std.specs.Str.{bytes_eq}
 use Rattle.smv_ast.specs.declared.program.Module.{Module}
@@ -6,8 +6,8 @@ use Rattle.smv_ast.specs.declared.program.Program.{Program}
 use Rattle.smv_meaning.specs.declared.names.Names.{Names}
 use Rattle.smv_meaning.specs.declared.scope.Scope.{Scope as HeldScope}
 use Rattle.smv_meaning.specs.Instances.{Entry, entries}
-use Rattle.smv_meaning.specs.Entries.{all_seen}
-use Rattle.smv_meaning.specs.Places.{Numbers, number_held}
+use Rattle.smv_meaning.specs.Entries.{entries_view}
+use Rattle.smv_meaning.specs.Indices.{Numbers, number_held}
 use Rattle.smv_meaning.specs.Value.{Name, and_then}
 
 -- a module with its names
@@ -15,9 +15,9 @@ pub record Scope : Type 0 where
   pub name : Name
   pub entries : List Entry
 
--- what a held module says
-abbrev pub scope_seen : HeldScope → Scope
-scope_seen s = record { name = s.name.now; entries = all_seen s.names.entries }
+-- the scope that a Rust value represents
+abbrev pub scope_view : HeldScope → Scope
+scope_view s = record { name = s.name.now; entries = entries_view s.names.entries }
 
 -- a module of a program with its names
 abbrev pub scope_of : Module → Scope
@@ -38,24 +38,25 @@ entries_in scopes name = entries_found (find (λ s. bytes_eq s.name name) scopes
 
 -- ---- by number
 
--- the names that were found, none where there are none
+-- the entries of the names that were found; none where there are none
 abbrev pub names_found : Option Names → List Entry
 names_found None = []
-names_found (Some names) = all_seen names.entries
+names_found (Some names) = entries_view names.entries
 
--- the names of a held module that was found, none where there is none
+-- the names of the module that was found; none where there is none
 abbrev pub scope_found : Option HeldScope → List Entry
 scope_found None = []
-scope_found (Some s) = all_seen s.names.entries
+scope_found (Some s) = entries_view s.names.entries
 
--- the names of the module that has this number, if there is one
+-- the names of the module of this number, if there is one
 abbrev pub names_numbered : List HeldScope → Option ℕ → List Entry
 names_numbered scopes number = scope_found (and_then number (slice_get scopes))
 
--- the names of the module that has the number that is held under a name
+-- the names of the module whose number a name maps to
 abbrev pub names_by : List HeldScope → Numbers → Name → List Entry
 names_by scopes numbers name = names_numbered scopes (number_held numbers name)
 
--- under each name the first module of that name is held
-abbrev pub TellsModules : List HeldScope → Numbers → Type 0
-TellsModules scopes numbers = (name : Name) → names_by scopes numbers name ≡ entries_in (map scope_seen scopes) name
+-- each name maps to the first module of that name
+abbrev pub IsModuleIndex : List HeldScope → Numbers → Type 0
+IsModuleIndex scopes numbers = (name : Name) → names_by scopes numbers name
+    ≡ entries_in (map scope_view scopes) name

@@ -1,54 +1,64 @@
--- The names of instances by the numbers of their slots.
+-- Qualified names by slot: the numbering of names by the instance table.
 use Rattle.std.specs.Prelude.{◌≡◌, ℕ, ◌+◌, List, Option, Some, slice_get}
 use Rattle.std.specs.Option.{option_map}
-use Rattle.smv_meaning.specs.declared.tree.Slot.{Slot}
-use Rattle.smv_meaning.specs.declared.tree.Tree.{Tree}
+use Rattle.smv_meaning.specs.declared.table.Slot.{Slot}
+use Rattle.smv_meaning.specs.declared.table.InstanceTable.{InstanceTable}
 use Rattle.smv_meaning.specs.Value.{Name, and_then}
-use Rattle.smv_meaning.specs.Least.{entry}
-use Rattle.smv_meaning.specs.Paths.{Spot, Meant, behind, standing, leads}
-use Rattle.smv_meaning.specs.Entries.{first_place}
-use Rattle.smv_meaning.specs.Tree.{entries_at, meant_seen}
+use Rattle.fixpoint.specs.Fixpoints.{entry}
+use Rattle.smv_meaning.specs.Paths.{QualifiedName, Binding, alias_of_binding, aliases, resolve}
+use Rattle.smv_meaning.specs.Entries.{first_index}
+use Rattle.smv_meaning.specs.InstanceTable.{entries_at, binding_view}
 
 -- the number of the slot of a name of an instance
-abbrev pub slot_of : Tree → Spot ℕ → Option ℕ
-slot_of tree spot = and_then (slice_get tree.firsts spot.place) (λ first. option_map (λ k. first + k) (first_place spot.name (entries_at tree.rows spot.place)))
+abbrev pub slot_of : InstanceTable → QualifiedName ℕ → Option ℕ
+slot_of table qualified = and_then (slice_get table.firsts qualified.instance)
+    (λ first. option_map (λ k. first + k)
+    (first_index qualified.name (entries_at table.rows qualified.instance)))
 
--- the name of an instance of which this is the slot
-abbrev pub spot_of : Slot → Spot ℕ
-spot_of slot = record { place = slot.row; name = slot.name.now }
+-- the qualified name of a slot
+abbrev pub name_of_slot : Slot → QualifiedName ℕ
+name_of_slot slot = record { instance = slot.row; name = slot.name.now }
 
--- what the names of the instances are, by number
-abbrev pub meant_in : Tree → Spot ℕ → Option (Meant ℕ)
-meant_in tree spot = and_then (slot_of tree spot) (λ k. and_then (slice_get tree.slots k) (λ slot. Some (meant_seen slot.meant)))
+-- the bindings of the names of the instances, by the table
+abbrev pub binding_in : InstanceTable → QualifiedName ℕ → Option (Binding ℕ)
+binding_in table qualified = and_then (slot_of table qualified)
+    (λ k. and_then (slice_get table.slots k) (λ slot. Some (binding_view slot.binding)))
 
--- what a table of slots tells of a name of an instance
-abbrev pub by_slot : {A : Type 0} → Tree → (ℕ → Option A) → Spot ℕ → Option A
-by_slot tree told spot = and_then (slot_of tree spot) told
+-- the entry that a table by slots has for a name of an instance
+abbrev pub by_slot : {A : Type 0} → InstanceTable → (ℕ → Option A) → QualifiedName ℕ → Option A
+by_slot table known_of qualified = and_then (slot_of table qualified) known_of
 
--- what makes a fact of a name of an instance, over facts of others, from what the name is
-abbrev pub Maker : Type 0 → Type 0
-Maker A = (Spot ℕ → Option A) → Spot ℕ → Meant ℕ → Option A
+-- a transfer function over bindings: the entry of a name, given its binding and the entries of
+-- others
+abbrev pub TransferFunction : Type 0 → Type 0
+TransferFunction A = (QualifiedName ℕ → Option A) → QualifiedName ℕ → Binding ℕ → Option A
 
--- a maker as a step on names
-abbrev pub name_step : {A : Type 0} → Tree → Maker A → (Spot ℕ → Option A) → Spot ℕ → Option A
-name_step tree make told spot = and_then (meant_in tree spot) (make told spot)
+-- the transfer function as a step on names
+abbrev pub name_step : {A : Type 0} → InstanceTable → TransferFunction A
+    → (QualifiedName ℕ → Option A) → QualifiedName ℕ → Option A
+name_step table transfer known_of qualified = and_then (binding_in table qualified)
+    (transfer known_of qualified)
 
--- a maker as a step on slots
-abbrev pub slot_step : {A : Type 0} → Tree → Maker A → (ℕ → Option A) → ℕ → Option A
-slot_step tree make told k = and_then (slice_get tree.slots k) (λ slot. make (by_slot tree told) (spot_of slot) (meant_seen slot.meant))
+-- the transfer function as a step on slots
+abbrev pub slot_step : {A : Type 0} → InstanceTable → TransferFunction A → (ℕ → Option A) → ℕ
+    → Option A
+slot_step table transfer known_of k = and_then (slice_get table.slots k)
+    (λ slot. transfer (by_slot table known_of) (name_of_slot slot) (binding_view slot.binding))
 
--- each name of an instance that has a slot stands in it
-abbrev pub HasSlots : Tree → Type 0
-HasSlots tree = (spot : Spot ℕ) (k : ℕ) → slot_of tree spot ≡ Some k → option_map spot_of (slice_get tree.slots k) ≡ Some spot
+-- each name of an instance has a slot of that name
+abbrev pub HasSlots : InstanceTable → Type 0
+HasSlots table = (qualified : QualifiedName ℕ) (k : ℕ) → slot_of table qualified ≡ Some k
+    → option_map name_of_slot (slice_get table.slots k) ≡ Some qualified
 
--- which instance a slot stands for, over those that other slots stand for
-abbrev pub stand_slots : Tree → (ℕ → Option ℕ) → ℕ → Option ℕ
-stand_slots tree = slot_step tree (λ stand spot. behind stand)
+-- the transfer function of aliases, on slots
+abbrev pub alias_slots : InstanceTable → (ℕ → Option ℕ) → ℕ → Option ℕ
+alias_slots table = slot_step table (λ alias qualified. alias_of_binding alias)
 
--- the table tells which instance each name stands for
-abbrev pub TellsStanding : Tree → List (Option ℕ) → Type 0
-TellsStanding tree table = (spot : Spot ℕ) → by_slot tree (entry table) spot ≡ standing (meant_in tree) spot
+-- the table has the alias of each name
+abbrev pub AreAliases : InstanceTable → List (Option ℕ) → Type 0
+AreAliases table solution = (qualified : QualifiedName ℕ) → by_slot table (entry solution) qualified
+    ≡ aliases (binding_in table) qualified
 
--- the slot of the declaration to which a path leads
-abbrev pub leads_to : Tree → ℕ → List Name → Option ℕ
-leads_to tree row path = and_then (leads (meant_in tree) row path) (slot_of tree)
+-- the slot of the declaration that a path resolves to
+abbrev pub resolve_slot : InstanceTable → ℕ → List Name → Option ℕ
+resolve_slot table row path = and_then (resolve (binding_in table) row path) (slot_of table)

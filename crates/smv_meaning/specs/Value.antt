@@ -1,4 +1,4 @@
--- Values, the values of a type, and what operators make of values.
+-- Values, the values of a type, and operators on values.
 use Rattle.std.specs.Prelude.{ℕ, zero, suc, ◌^◌, ◌%◌, Bool, true, false, not, ◌&&◌, ◌||◌, if◌then◌else◌, List, [], ◌∷◌, map, ℤ, pos, negsuc, ◌+ℤ◌, ◌-ℤ◌, ◌*ℤ◌, neg_ℤ, int_lt, int_le, nat_lt, Option, Some, None, slice_get}
 use Rattle.std.specs.Str.{bytes_eq}
 use Rattle.smv_ast.specs.declared.syntax.SmvType.{SmvType}
@@ -12,23 +12,23 @@ use Rattle.smv_meaning.specs.declared.value.Value.TheVariants.{Boolean, Number, 
 abbrev pub Name : Type 0
 Name = List ℕ
 
--- what is made of a thing, if it is there
+-- the continuation of a value, where there is one
 abbrev pub and_then : {A B : Type 0} → Option A → (A → Option B) → Option B
-and_then None make = None
-and_then (Some a) make = make a
+and_then None transfer = None
+and_then (Some a) transfer = transfer a
 
--- what is made of two things, if both are there
+-- a function of two values, where there are both
 abbrev pub of_both : {A B C : Type 0} → (A → B → Option C) → Option A → Option B → Option C
-of_both make a b = and_then a (λ x. and_then b (make x))
+of_both transfer a b = and_then a (λ x. and_then b (transfer x))
 
 -- ---- types
 
--- so many numbers, up from the first
+-- so many numbers, upwards from the first
 abbrev pub up_from : ℤ → ℕ → List Value
 up_from low zero = []
 up_from low (suc more) = Number low ∷ up_from (low +ℤ pos 1) more
 
--- how many numbers lie from the first up to the last, by their difference
+-- the count of numbers from the first up to the last, by their difference
 abbrev pub count_to : ℤ → ℕ
 count_to (pos n) = suc n
 count_to (negsuc n) = 0
@@ -37,7 +37,7 @@ count_to (negsuc n) = 0
 abbrev pub between : ℤ → ℤ → List Value
 between low high = up_from low (count_to (high -ℤ low))
 
--- the values of a type in their order: FALSE before TRUE, numbers upwards, an enumeration as it is written
+-- the values of a type in order: FALSE before TRUE, numbers upwards, an enumeration in text order
 abbrev pub all_values : SmvType → List Value
 all_values type.Boolean = Boolean false ∷ Boolean true ∷ []
 all_values (type.Range low high) = between low high
@@ -50,28 +50,28 @@ first_value t = slice_get (all_values t) 0
 
 -- ---- values
 
--- a truth value; 0 and 1 serve as FALSE and TRUE where one is needed
+-- the truth value of a value; 0 and 1 are read as FALSE and TRUE
 abbrev pub truth : Value → Option Bool
 truth (Boolean b) = Some b
 truth (Number (pos zero)) = Some false
 truth (Number (pos (suc zero))) = Some true
 truth v = None
 
--- whether two truth values are one
+-- whether two truth values are equal
 abbrev pub bool_eq : Bool → Bool → Bool
 bool_eq true b = b
 bool_eq false b = not b
 
--- whether two numbers are one
+-- whether two numbers are equal
 abbrev pub int_eq : ℤ → ℤ → Bool
 int_eq m n = int_le m n && int_le n m
 
--- whether there is a truth value, and it is this one
+-- whether a truth value is defined and this one
 abbrev pub is_truth : Bool → Option Bool → Bool
 is_truth b None = false
 is_truth b (Some c) = bool_eq b c
 
--- whether two values are one; beside a truth value 0 and 1 are truth values
+-- whether two values are equal; compared with a truth value, 0 and 1 are truth values
 abbrev pub same : Value → Value → Bool
 same (Boolean b) w = is_truth b (truth w)
 same (Number m) (Number n) = int_eq m n
@@ -79,12 +79,12 @@ same (Symbol a) (Symbol b) = bytes_eq a b
 same v (Boolean c) = is_truth c (truth v)
 same v w = false
 
--- whether there is a value, and it is this one
+-- whether a value is defined and this one
 abbrev pub is_same : Value → Option Value → Bool
 is_same v None = false
 is_same v (Some w) = same v w
 
--- whether there is a value, and it is TRUE
+-- whether a value is defined and TRUE
 abbrev pub is_true : Option Value → Bool
 is_true v = is_truth true (and_then v truth)
 
@@ -95,21 +95,21 @@ in_range low high v = false
 
 -- ---- operators
 
--- whether 64 bits hold a number; the numbers of a checked model stay far within
+-- whether 64 bits represent a number; the numbers of a checked model stay far within
 abbrev pub fits : ℤ → Bool
 fits (pos n) = nat_lt n (2 ^ 63)
 fits (negsuc n) = nat_lt n (2 ^ 63)
 
--- a number as a value; one that 64 bits do not hold is none
+-- a number as a value; none where 64 bits do not represent it
 abbrev pub whole : ℤ → Option Value
 whole n = if fits n then Some (Number n) else None
 
--- the remainder of a number that is not below 0 by one above 0; no other has one
+-- the remainder of a number that is at least 0 by one above 0; none at other numbers
 abbrev pub remainder : ℤ → ℤ → Option Value
 remainder (pos m) (pos (suc n)) = Some (Number (pos (m % suc n)))
 remainder m n = None
 
--- what an operator makes of two numbers
+-- the result of an operator on two numbers
 abbrev pub of_numbers : Op → ℤ → ℤ → Option Value
 of_numbers op.Add m n = whole (m +ℤ n)
 of_numbers op.Sub m n = whole (m -ℤ n)
@@ -121,7 +121,7 @@ of_numbers op.Le m n = Some (Boolean (int_le m n))
 of_numbers op.Ge m n = Some (Boolean (int_le n m))
 of_numbers o m n = None
 
--- what an operator makes of two truth values
+-- the result of an operator on two truth values
 abbrev pub of_truths : Op → Bool → Bool → Option Value
 of_truths op.And b c = Some (Boolean (b && c))
 of_truths op.Or b c = Some (Boolean (b || c))
@@ -131,16 +131,16 @@ of_truths op.Iff b c = Some (Boolean (bool_eq b c))
 of_truths op.Implies b c = Some (Boolean (not b || c))
 of_truths o b c = None
 
--- an operator on numbers, at two values
+-- an operator on numbers, applied to two values
 abbrev pub on_numbers : Op → Value → Value → Option Value
 on_numbers o (Number m) (Number n) = of_numbers o m n
 on_numbers o v w = None
 
--- an operator on truth values, at two values
+-- an operator on truth values, applied to two values
 abbrev pub on_truths : Op → Value → Value → Option Value
 on_truths o v w = of_both (of_truths o) (truth v) (truth w)
 
--- what an operator makes of two values
+-- the result of an operator on two values
 abbrev pub operate : Op → Value → Value → Option Value
 operate op.Eq v w = Some (Boolean (same v w))
 operate op.Ne v w = Some (Boolean (not (same v w)))
@@ -152,11 +152,11 @@ operate op.Iff v w = on_truths op.Iff v w
 operate op.Implies v w = on_truths op.Implies v w
 operate o v w = on_numbers o v w
 
--- a number with its sign turned
+-- the number with the opposite sign
 abbrev pub negated : Value → Option Value
 negated (Number n) = whole (neg_ℤ n)
 negated v = None
 
--- the other truth value
-abbrev pub denied : Value → Option Value
-denied v = and_then (truth v) (λ b. Some (Boolean (not b)))
+-- the opposite truth value
+abbrev pub logical_not : Value → Option Value
+logical_not v = and_then (truth v) (λ b. Some (Boolean (not b)))

@@ -1,5 +1,6 @@
--- What paths are worth in an instance and a state: variables by the state, DEFINEs and formals by what they stand for,
--- each read in its own instance, and all else by the symbols of the program.
+-- The valuation of a state: a variable has the value of the state, a definition or a formal the
+-- value of its expression in its own instance; a path that resolves to no declaration may be a
+-- symbol of the program.
 use Rattle.std.specs.Prelude.{Bool, true, false, List, [], ◌∷◌, ◌++◌, Option, Some, None}
 use Rattle.std.specs.List.{list_any}
 use Rattle.std.specs.Str.{bytes_eq}
@@ -14,95 +15,108 @@ use Rattle.smv_ast.specs.declared.program.Program.{Program}
 use Rattle.smv_meaning.specs.declared.value.Value.{Value}
 use Rattle.smv_meaning.specs.declared.value.Value.TheVariants.{Symbol}
 use Rattle.smv_meaning.specs.Value.{Name, and_then}
-use Rattle.smv_meaning.specs.Least.{least}
-use Rattle.smv_meaning.specs.Paths.{Spot, Meant, IsVariable, IsDefine, IsFormal, leads}
-use Rattle.smv_meaning.specs.Instances.{Place, path_of, meant_at}
-use Rattle.smv_meaning.specs.Senses.{Reading, sense_of}
+use Rattle.fixpoint.specs.Fixpoints.{fixpoint}
+use Rattle.smv_meaning.specs.Paths.{QualifiedName, Binding, IsVariable, IsDefine, IsFormal, resolve}
+use Rattle.smv_meaning.specs.Instances.{Instance, path_of, binding_at}
+use Rattle.smv_meaning.specs.Denotations.{Environment, denotation_of}
 
--- a state gives each variable a value, by the variable's path from `main`
+-- a state: the value of each variable, by the variable's path from `main`
 abbrev pub State : Type 0
 State = List Name → Option Value
 
 -- ---- symbols
 
--- whether a name stands in a type
+-- whether a name is a symbol of a type
 abbrev pub type_names : SmvType → Name → Bool
 type_names (type.Symbols names) name = list_any (λ n. bytes_eq n name) names
 type_names t name = false
 
--- whether it stands in the type of what is declared
+-- whether it is a symbol of the declared type
 abbrev pub declared_names : Declared → Name → Bool
 declared_names (Plain t) name = type_names t name
 declared_names d name = false
 
--- whether it stands in a type of the section
+-- whether it is a symbol of a type of the section
 abbrev pub section_names : Section → Name → Bool
-section_names (section.Vars declarations) name = list_any (λ d. declared_names d.what name) declarations
+section_names (section.Vars declarations) name = list_any (λ d. declared_names d.what name)
+    declarations
 section_names s name = false
 
--- whether it stands in a type of one of the sections
+-- whether it is a symbol of a type of one of the sections
 abbrev pub module_names : List Section → Name → Bool
 module_names sections name = list_any (λ s. section_names s name) sections
 
--- whether a name stands in a type of the program
+-- whether a name is a symbol of a type of the program
 abbrev pub is_symbol : Program → Name → Bool
 is_symbol program name = list_any (λ m. module_names m.sections name) program.modules
 
--- a single name that stands in a type is a symbol
+-- a path of a single name that is a symbol denotes it
 abbrev pub symbol_of : Program → List Name → Option Value
-symbol_of program (name ∷ []) = elim (is_symbol program name) [ true ↦ Some (Symbol name) | false ↦ None ]
+symbol_of program (name ∷ []) = elim (is_symbol program name)
+    [ true ↦ Some (Symbol name) | false ↦ None ]
 symbol_of program path = None
 
--- ---- what names are worth
+-- ---- values of names
 
--- what the declared names of instances are worth
-abbrev pub Worth : Type 0 → Type 0
-Worth P = Spot P → Option Value
+-- the values of the qualified names
+abbrev pub Valuation : Type 0 → Type 0
+Valuation P = QualifiedName P → Option Value
 
--- what a path is worth: what the declaration is to which it leads; a path that leads to none may be a symbol
-abbrev pub worth_at : {P : Type 0} → Reading → Worth P → List Name → Option (Spot P) → Option Value
-worth_at symbols worth path None = symbols path
-worth_at symbols worth path (Some spot) = worth spot
+-- the value at a path: that of the declaration that it resolves to; a path that resolves to none
+-- may be a symbol
+abbrev pub value_at_path : {P : Type 0} → Environment → Valuation P → List Name
+    → Option (QualifiedName P) → Option Value
+value_at_path symbols valuation path None = symbols path
+value_at_path symbols valuation path (Some qualified) = valuation qualified
 
--- over what the names of the instances are, and the symbols
-module _ {P : Type 0} (meant : Spot P → Option (Meant P)) (symbols : Reading) where
-  -- what the paths of an instance are worth
-  abbrev pub reading_by : Worth P → P → Reading
-  reading_by worth place path = worth_at symbols worth path (leads meant place path)
+-- over the bindings of the instances, and the symbols
+module _ {P : Type 0} (binding : QualifiedName P → Option (Binding P)) (symbols : Environment) where
+  -- the environment of an instance
+  abbrev pub environment_by : Valuation P → P → Environment
+  environment_by valuation instance path = value_at_path symbols valuation path
+      (resolve binding instance path)
 
-  -- the value of an expression that is read in an instance
-  abbrev pub read_by : Worth P → P → Expr → Option Value
-  read_by worth place e = (sense_of e).value (reading_by worth place) (reading_by worth place)
+  -- the value of an expression, its names read in an instance
+  abbrev pub read_by : Valuation P → P → Expr → Option Value
+  read_by valuation instance e = (denotation_of e).value (environment_by valuation instance)
+      (environment_by valuation instance)
 
-  -- what a name is worth: a variable by the state, a DEFINE in its own instance, a formal where its actual stands
-  abbrev pub worth_of : Worth P → Worth P → Spot P → Meant P → Option Value
-  worth_of state worth spot IsVariable = state spot
-  worth_of state worth spot (IsDefine right) = read_by worth spot.place right
-  worth_of state worth spot (IsFormal place actual) = read_by worth place actual
-  worth_of state worth spot m = None
+  -- the value of a binding: a variable's by the state, a definition's in its own instance, a
+  -- formal's in the instance of its actual
+  abbrev pub value_of_binding : Valuation P → Valuation P → QualifiedName P → Binding P
+      → Option Value
+  value_of_binding state valuation qualified IsVariable = state qualified
+  value_of_binding state valuation qualified (IsDefine right) = read_by valuation qualified.instance
+      right
+  value_of_binding state valuation qualified (IsFormal instance actual) = read_by valuation instance
+      actual
+  value_of_binding state valuation qualified m = None
 
-  -- what a name is worth in a state, over what other names are
-  abbrev pub worth_step : Worth P → Worth P → Worth P
-  worth_step state worth spot = and_then (meant spot) (worth_of state worth spot)
+  -- the transfer function of valuations
+  abbrev pub valuation_step : Valuation P → Valuation P → Valuation P
+  valuation_step state valuation qualified = and_then (binding qualified)
+      (value_of_binding state valuation qualified)
 
-  -- what each name is worth in a state; what reads itself is worth nothing
-  abbrev pub worth_in : Worth P → Worth P
-  worth_in state = least (worth_step state)
+  -- the valuation of a state; a name on a cycle of definitions has no value
+  abbrev pub valuation_in : Valuation P → Valuation P
+  valuation_in state = fixpoint (valuation_step state)
 
 -- ---- the values of an expression
 
 -- the value that a state gives a variable of an instance
-abbrev pub variable_in : State → Worth Place
-variable_in s spot = s (path_of spot.place ++ spot.name ∷ [])
+abbrev pub variable_in : State → Valuation Instance
+variable_in s qualified = s (path_of qualified.instance ++ qualified.name ∷ [])
 
--- what the paths of an instance are worth in a state
-abbrev pub reading_in : Program → State → Place → Reading
-reading_in program s = let worth : Worth Place = worth_in (meant_at program) (symbol_of program) (variable_in s) in reading_by (meant_at program) (symbol_of program) worth
+-- the environment of an instance in a state
+abbrev pub environment_in : Program → State → Instance → Environment
+environment_in program s = let valuation : Valuation Instance = valuation_in (binding_at program) (symbol_of program) (variable_in s) in environment_by (binding_at program) (symbol_of program) valuation
 
--- the value of an expression in an instance, in a state and the state after it
-abbrev pub value_in : Program → State → State → Place → Expr → Option Value
-value_in program s t place e = (sense_of e).value (reading_in program s place) (reading_in program t place)
+-- the value of an expression in an instance, given a state and the state after it
+abbrev pub value_in : Program → State → State → Instance → Expr → Option Value
+value_in program s t instance e = (denotation_of e).value (environment_in program s instance)
+    (environment_in program t instance)
 
--- whether a value is one of those that an expression allows in an instance, in a state and the state after it
-abbrev pub allows_in : Program → State → State → Place → Expr → Value → Option Bool
-allows_in program s t place e = (sense_of e).allows (reading_in program s place) (reading_in program t place)
+-- whether an expression allows a value in an instance, given a state and the state after it
+abbrev pub allows_in : Program → State → State → Instance → Expr → Value → Option Bool
+allows_in program s t instance e = (denotation_of e).allows (environment_in program s instance)
+    (environment_in program t instance)

@@ -1,49 +1,50 @@
-//! Whether a list of states is a run, and whether an expression is true in a state.
+//! The check of a run, and the truth of an expression in a state.
 
 ghost use Rattle.std.specs.Prelude.{◌≡◌, ◌↔◌, ◌<◌, ◌^◌, All, IfOk, IfSome, Some, length, map, slice_get};
 ghost use Rattle.std.specs.Option.{option_map};
 ghost use Rattle.smv_meaning.specs.Instances as instances;
 ghost use Rattle.smv_meaning.specs.Runs as spec;
 ghost use Rattle.smv_meaning.specs.Checking as checking;
-ghost use Rattle.smv_meaning.specs.Items as items;
+ghost use Rattle.smv_meaning.specs.MetItems as items;
 ghost use Rattle.smv_meaning.specs.RunCheck as check;
-ghost use Rattle.smv_meaning.specs.Scopes.{scope_seen, scopes_of as scopes_of_program};
-ghost use Rattle.smv_meaning.specs.Sections.{TellsSections};
+ghost use Rattle.smv_meaning.specs.Scopes.{scope_view, scopes_of as scopes_of_program};
+ghost use Rattle.smv_meaning.specs.ItemIndex.{IsItemIndex};
 ghost use Rattle.smv_meaning.specs.Slots as slots;
-ghost use Rattle.smv_meaning.specs.Worth as worth;
+ghost use Rattle.smv_meaning.specs.Valuation as valuation;
 
-use crate::items::{View, sections_broken};
-use crate::net::path_texts;
+use crate::aliases::aliases_of;
+use crate::instance_texts::path_texts;
+use crate::item_index::ItemsByName;
+use crate::met_items::{View, first_unmet};
 use crate::order::order_of;
 use crate::run::{Run, RunAnswer, RunState};
 use crate::scope::{Scope, scopes_of};
-use crate::sections::SectionsByName;
-use crate::standing::standing_of;
-use crate::tree::{Tree, tree_of};
+use crate::table::{InstanceTable, instance_table};
+use crate::valuation::{RunContext, value_of_binding};
 use crate::value::Value;
-use crate::worth::{Net, worth_of};
 use smv_ast::{List, NoMemory, Program, Span, Text};
 use std::alloc::Global;
 
-/// The first item that is not met in a state and the one before it, if there is one.
+/// The first item that is not met in a state, given the state before it, if there is one.
 fn first_broken<'t>(
     alloc: Global,
-    net: &'t Net<'t>,
-    sections: &SectionsByName,
+    context: &'t RunContext<'t>,
+    index: &ItemsByName,
     order: &[usize],
     before: Option<View<'t>>,
     now: View<'t>,
 ) -> Result<Option<Span>, NoMemory>
-    requires right { checking.IsRightNet net.now }
-    requires sections { TellsSections net.now.program.now sections.now }
-    requires rows { checking.AreRows net.now.tree.now order.now }
-    requires before { IfSome before (items.IsView net.now) }
-    requires now { items.IsView net.now now }
-    ensures { IfOk result (λ b. b ≡ check.broken_in_order net.now before.entry now.entry order.now) }
+    requires right { checking.IsContextOfProgram context.now }
+    requires index { IsItemIndex context.now.program.now index.now }
+    requires rows { checking.AreRows context.now.table.now order.now }
+    requires before { IfSome before (items.IsView context.now) }
+    requires now { items.IsView context.now now }
+    ensures { IfOk result (λ b. b
+        ≡ check.broken_in_order context.now before.entry now.entry order.now) }
 {
     for row in order {
-        let own = sections.of_row(net.program, net.tree, *row);
-        match sections_broken(alloc, net, *row, before, now, own)? {
+        let own = index.of_row(context.program, context.table, *row);
+        match first_unmet(alloc, context, *row, before, now, own)? {
             Some(at) => return Ok(Some(at)),
             None => {}
         }
@@ -51,57 +52,58 @@ fn first_broken<'t>(
     Ok(None)
 }
 
-/// What each slot is worth in each of these states.
+/// The valuation of each of these states, by slots.
 fn tables_of(
     alloc: Global,
-    net: &Net,
+    context: &RunContext,
     states: &[RunState],
 ) -> Result<List<List<Option<Value>>>, NoMemory>
-    ensures { IfOk result (λ tables. check.AreTables net.now states.now tables) }
+    ensures { IfOk result (λ tables. check.AreTables context.now states.now tables) }
 {
     let mut tables = List::new(alloc);
     for state in states {
-        let table = worth_of(alloc, net, state)?;
-        tables.push(table)?;
+        let solution = value_of_binding(alloc, context, state)?;
+        tables.push(solution)?;
     }
     Ok(tables)
 }
 
-/// The state of a number, with what each slot is worth in it.
+/// The view of the state of a number: the state and its valuation.
 fn view_of<'t>(states: &'t [RunState], tables: &'t [List<Option<Value>>], k: usize) -> View<'t>
     requires states { k < length states.now }
     requires tables { k < length tables.now }
     ensures written { slice_get states.now k ≡ Some result.written.now }
-    ensures table { slice_get tables.now k ≡ Some result.table.now }
+    ensures solution { slice_get tables.now k ≡ Some result.solution.now }
 {
     View {
         written: &states[k],
-        table: tables[k].as_slice(),
+        solution: tables[k].as_slice(),
     }
 }
 
-/// Whether these states are a run, from what each slot is worth in them.
+/// Checks these states, given their valuations.
 fn run_answer<'t>(
     alloc: Global,
-    net: &'t Net<'t>,
-    sections: &SectionsByName,
+    context: &'t RunContext<'t>,
+    index: &ItemsByName,
     order: &[usize],
     states: &'t [RunState],
     tables: &'t [List<Option<Value>>],
 ) -> Result<RunAnswer, NoMemory>
-    requires right { checking.IsRightNet net.now }
-    requires sections { TellsSections net.now.program.now sections.now }
-    requires rows { checking.AreRows net.now.tree.now order.now }
-    requires order { map (checking.stands net.now.tree.now) order.now ≡ instances.instances net.now.program.now }
-    requires tables { check.AreTables net.now states.now tables.now }
+    requires right { checking.IsContextOfProgram context.now }
+    requires index { IsItemIndex context.now.program.now index.now }
+    requires rows { checking.AreRows context.now.table.now order.now }
+    requires order { map (checking.instance_at context.now.table.now) order.now
+        ≡ instances.instances context.now.program.now }
+    requires tables { check.AreTables context.now states.now tables.now }
     requires short { length states.now < 2 ^ 32 }
-    ensures { IfOk result (λ a. a ≡ spec.answer_of net.now.program.now states.now) }
+    ensures { IfOk result (λ a. a ≡ spec.answer_of context.now.program.now states.now) }
 {
     let mut before = None;
     let mut step: u32 = 0;
     for k in 0..states.len() {
         let now = view_of(states, tables, k);
-        match first_broken(alloc, net, sections, order, before, now)? {
+        match first_broken(alloc, context, index, order, before, now)? {
             Some(item) => return Ok(RunAnswer::Breaks { step, item }),
             None => {}
         }
@@ -111,70 +113,70 @@ fn run_answer<'t>(
     Ok(RunAnswer::Run)
 }
 
-/// Whether these states are a run of the program that this net has.
+/// Checks these states in a program, given its context.
 fn run_in<'t>(
     alloc: Global,
-    net: &'t Net<'t>,
+    context: &'t RunContext<'t>,
     states: &'t [RunState],
 ) -> Result<RunAnswer, NoMemory>
-    requires right { checking.IsRightNet net.now }
+    requires right { checking.IsContextOfProgram context.now }
     requires short { length states.now < 2 ^ 32 }
-    ensures { IfOk result (λ a. a ≡ spec.answer_of net.now.program.now states.now) }
+    ensures { IfOk result (λ a. a ≡ spec.answer_of context.now.program.now states.now) }
 {
-    let sections = SectionsByName::of_program(alloc, net.program)?;
-    let order = order_of(alloc, net.program, net.tree)?;
-    let tables = tables_of(alloc, net, states)?;
+    let index = ItemsByName::of_program(alloc, context.program)?;
+    let order = order_of(alloc, context.program, context.table)?;
+    let tables = tables_of(alloc, context, states)?;
     run_answer(
         alloc,
-        net,
-        &sections,
+        context,
+        &index,
         order.as_slice(),
         states,
         tables.as_slice(),
     )
 }
 
-fn run_of_net(
+fn run_of_context(
     alloc: Global,
     program: &Program,
-    tree: &Tree,
-    standing: &[Option<usize>],
+    table: &InstanceTable,
+    aliases: &[Option<usize>],
     texts: &[Text],
     states: &[RunState],
 ) -> Result<RunAnswer, NoMemory>
-    requires right { checking.IsRight program.now tree.now }
-    requires has { slots.HasSlots tree.now }
-    requires standing { slots.TellsStanding tree.now standing.now }
-    requires texts { worth.SpellsNames tree.now.rows texts.now }
+    requires right { checking.IsTableOfProgram program.now table.now }
+    requires has { slots.HasSlots table.now }
+    requires aliases { slots.AreAliases table.now aliases.now }
+    requires texts { valuation.SpellsNames table.now.rows texts.now }
     requires short { length states.now < 2 ^ 32 }
     ensures { IfOk result (λ a. a ≡ spec.answer_of program.now states.now) }
 {
-    let net = Net {
+    let context = RunContext {
         program,
-        tree,
-        standing,
+        table,
+        aliases,
         texts,
     };
-    run_in(alloc, &net, states)
+    run_in(alloc, &context, states)
 }
 
-fn run_of_tree(
+fn run_of_table(
     alloc: Global,
     program: &Program,
-    tree: &Tree,
+    table: &InstanceTable,
     states: &[RunState],
 ) -> Result<RunAnswer, NoMemory>
-    requires right { checking.IsRight program.now tree.now }
+    requires right { checking.IsTableOfProgram program.now table.now }
     requires short { length states.now < 2 ^ 32 }
     ensures { IfOk result (λ a. a ≡ spec.answer_of program.now states.now) }
 {
-    let standing = standing_of(alloc, tree)?;
-    let texts = path_texts(alloc, tree.rows.as_slice())?;
-    run_of_net(
+    let aliases = aliases_of(alloc, table)?;
+    let texts = path_texts(alloc, table.rows.as_slice())?;
+    run_of_context(
         alloc,
         program,
-        tree,
-        standing.as_slice(),
+        table,
+        aliases.as_slice(),
         texts.as_slice(),
         states,
     )
@@ -186,25 +188,28 @@ fn run_of_scopes(
     scopes: &[Scope],
     states: &[RunState],
 ) -> Result<RunAnswer, NoMemory>
-    requires scopes { map scope_seen scopes.now ≡ scopes_of_program program.now }
+    requires scopes { map scope_view scopes.now ≡ scopes_of_program program.now }
     requires short { length states.now < 2 ^ 32 }
     ensures { IfOk result (λ a. a ≡ spec.answer_of program.now states.now) }
 {
-    match tree_of(alloc, program, scopes, usize::MAX)? {
-        Some(tree) => run_of_tree(alloc, program, &tree, states),
+    match instance_table(alloc, program, scopes, usize::MAX)? {
+        Some(table) => run_of_table(alloc, program, &table, states),
         // No table in memory has that many instances.
         None => Err(NoMemory),
     }
 }
 
-/// Whether a list of states is a run of a program, and else the first item that breaks, in the order
-/// of the instances and of the text, at the first state where one does. It does not look whether each
-/// variable has a value of its type: where each has, and there is a state, the answer is `Run` exactly
-/// at runs. Of no states the answer is `Run`. The only error is want of memory.
+/// Whether a list of states is a run of a program; else the first item that breaks, in the order of
+/// the instances and of the text, at the first state where one does. Values are not compared with
+/// the types of their variables: where each variable has a value of its type, and there is a state,
+/// the answer is `Run` exactly at runs. The answer on no states is `Run`. The only error is
+/// `NoMemory`.
 pub fn check_run(alloc: Global, program: &Program, run: &Run) -> Result<RunAnswer, NoMemory>
     requires { length run.now.states < 2 ^ 32 }
     ensures exact { IfOk result (λ a. a ≡ spec.answer_of program.now run.now.states) }
-    ensures law { IfOk result (λ a. 0 < length run.now.states → All (spec.IsState program.now) (map spec.state_of run.now.states) → (a ≡ RunAnswer.Run) ↔ spec.IsRun program.now (map spec.state_of run.now.states)) }
+    ensures law { IfOk result (λ a. 0 < length run.now.states
+        → All (spec.IsState program.now) (map spec.state_of run.now.states) → (a ≡ RunAnswer.Run)
+        ↔ spec.IsRun program.now (map spec.state_of run.now.states)) }
 {
     let scopes = scopes_of(alloc, program)?;
     run_of_scopes(alloc, program, scopes.as_slice(), run.states.as_slice())

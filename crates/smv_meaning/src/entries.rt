@@ -1,15 +1,15 @@
-//! What the names of a module stand for.
+//! The entities that a module declares, with their names.
 
 ghost use Rattle.std.specs.Prelude.{◌≡◌, ◌++◌, IfOk, OnOk};
 ghost use Rattle.smv_meaning.specs.Instances as spec;
-ghost use Rattle.smv_meaning.specs.Entries.{all_seen};
+ghost use Rattle.smv_meaning.specs.Entries.{entries_view};
 
 use smv_ast::{Declared, Expr, List, Module, NoMemory, Section, SmvType, Text};
 use std::alloc::Global;
 
-/// What a name of a module stands for.
+/// The entity that a name of a module denotes.
 #[derive(Clone, Copy, Drop)]
-pub enum Meaning<'a> {
+pub enum Entity<'a> {
     Variable(&'a SmvType),
     /// An instance of a module, with its actuals.
     Inner {
@@ -22,29 +22,30 @@ pub enum Meaning<'a> {
     Formal(usize),
 }
 
-/// A name with what it stands for.
+/// A name with its entity.
 #[derive(Clone, Copy, Drop)]
 pub struct Entry<'a> {
     pub name: &'a Text,
-    pub meaning: Meaning<'a>,
+    pub entity: Entity<'a>,
 }
 
 fn push_section<'a>(entries: &mut List<Entry<'a>>, section: &'a Section) -> Result<(), NoMemory>
-    ensures { OnOk result (all_seen entries.new ≡ all_seen entries.old ++ spec.section_entries section.now) }
+    ensures { OnOk result (entries_view entries.new ≡ entries_view entries.old
+        ++ spec.section_entries section.now) }
 {
     match section {
         Section::Vars(declarations) => {
             for declaration in declarations.as_slice() {
-                let meaning = match &declaration.what {
-                    Declared::Plain(type_) => Meaning::Variable(type_),
-                    Declared::Instance { module, actuals } => Meaning::Inner {
+                let entity = match &declaration.what {
+                    Declared::Plain(type_) => Entity::Variable(type_),
+                    Declared::Instance { module, actuals } => Entity::Inner {
                         called: module,
                         actuals: actuals.as_slice(),
                     },
                 };
                 entries.push(Entry {
                     name: &declaration.name,
-                    meaning,
+                    entity,
                 })?;
             }
             Ok(())
@@ -53,7 +54,7 @@ fn push_section<'a>(entries: &mut List<Entry<'a>>, section: &'a Section) -> Resu
             for definition in definitions.as_slice() {
                 entries.push(Entry {
                     name: &definition.name,
-                    meaning: Meaning::Defined(&definition.right),
+                    entity: Entity::Defined(&definition.right),
                 })?;
             }
             Ok(())
@@ -62,16 +63,16 @@ fn push_section<'a>(entries: &mut List<Entry<'a>>, section: &'a Section) -> Resu
     }
 }
 
-/// The names of a module: its formals, then those of its sections, in the order of the text.
+/// The names of a module: its formals, then the names of its sections, in the order of the text.
 pub fn entries_of<'a>(alloc: Global, owner: &'a Module) -> Result<List<Entry<'a>>, NoMemory>
-    ensures { IfOk result (λ entries. all_seen entries ≡ spec.entries owner.now) }
+    ensures { IfOk result (λ entries. entries_view entries ≡ spec.entries owner.now) }
 {
     let mut entries = List::new(alloc);
     let mut number = 0;
     for name in owner.formals.as_slice() {
         entries.push(Entry {
             name,
-            meaning: Meaning::Formal(number),
+            entity: Entity::Formal(number),
         })?;
         number += 1;
     }

@@ -1,27 +1,27 @@
-//! The values of expressions, over any reading of names.
+//! The values of expressions, over any environment.
 
 ghost use Rattle.std.specs.Prelude.{◌≡◌, IfOk, map};
 ghost use Rattle.smv_meaning.specs.Value.{and_then, truth as truth_of};
-ghost use Rattle.smv_meaning.specs.Senses as spec;
+ghost use Rattle.smv_meaning.specs.Denotations as spec;
 
-use crate::operators::{denied, in_range, negated, operate, same, truth};
+use crate::operators::{in_range, logical_not, negated, operate, same, truth};
 use crate::value::Value;
 use smv_ast::{Boxed, Branch, Choice, Expr, NoMemory, Path};
 use std::alloc::Global;
 
-/// What paths stand for.
+/// An environment: the values of paths.
 pub trait Reader {
     ghost use Rattle.std.specs.Prelude.{◌≡◌, IfOk};
-    ghost use Rattle.smv_meaning.specs.Senses.{Reading};
+    ghost use Rattle.smv_meaning.specs.Denotations.{Environment};
 
-    ghost reads: { Self → Reading };
+    ghost reads: { Self → Environment };
 
-    /// What the path stands for, if it stands for a value. The only error is want of memory.
+    /// The value of a path, if it has one. The only error is `NoMemory`.
     fn read(&self, alloc: Global, path: &Path) -> Result<Option<Value>, NoMemory>
         ensures { IfOk result (λ v. v ≡ reads self.now path.now.names) };
 }
 
-/// The value of an expression, with names read by `now`, and by `after` under `next`.
+/// The value of an expression; `after` is the environment of the names under `next`.
 #[cycle(evaluation)]
 pub fn value<R: Reader>(
     alloc: Global,
@@ -29,7 +29,8 @@ pub fn value<R: Reader>(
     after: &R,
     e: &Expr,
 ) -> Result<Option<Value>, NoMemory>
-    ensures { IfOk result (λ v. v ≡ (spec.sense_of e.now).value (R.reads now.now) (R.reads after.now)) }
+    ensures { IfOk result (λ v. v
+        ≡ (spec.denotation_of e.now).value (R.reads now.now) (R.reads after.now)) }
 {
     match e {
         Expr::True => Ok(Some(Value::Boolean(true))),
@@ -41,7 +42,7 @@ pub fn value<R: Reader>(
             None => Ok(None),
         },
         Expr::Not(a) => match boxed_value(alloc, now, after, a)? {
-            Some(v) => Ok(denied(&v)),
+            Some(v) => Ok(logical_not(&v)),
             None => Ok(None),
         },
         Expr::Binary(op, a, b) => {
@@ -72,7 +73,8 @@ fn boxed_value<R: Reader>(
     after: &R,
     e: &Boxed<Expr>,
 ) -> Result<Option<Value>, NoMemory>
-    ensures { IfOk result (λ v. v ≡ (spec.sense_of e.now).value (R.reads now.now) (R.reads after.now)) }
+    ensures { IfOk result (λ v. v
+        ≡ (spec.denotation_of e.now).value (R.reads now.now) (R.reads after.now)) }
 {
     value(alloc, now, after, e.get())
 }
@@ -85,7 +87,9 @@ fn holds<R: Reader>(
     after: &R,
     cond: &Expr,
 ) -> Result<Option<bool>, NoMemory>
-    ensures { IfOk result (λ b. b ≡ and_then ((spec.sense_of cond.now).value (R.reads now.now) (R.reads after.now)) truth_of) }
+    ensures { IfOk result (λ b. b
+        ≡ and_then ((spec.denotation_of cond.now).value (R.reads now.now) (R.reads after.now))
+        truth_of) }
 {
     match value(alloc, now, after, cond)? {
         Some(v) => Ok(truth(&v)),
@@ -100,7 +104,9 @@ fn case_value<R: Reader>(
     after: &R,
     branches: &[Branch],
 ) -> Result<Option<Value>, NoMemory>
-    ensures { IfOk result (λ v. v ≡ spec.case_value (R.reads now.now) (R.reads after.now) (map spec.branch_sense_of branches.now)) }
+    ensures { IfOk result (λ v. v
+        ≡ spec.case_value (R.reads now.now) (R.reads after.now)
+        (map spec.branch_denotation_of branches.now)) }
 {
     let mut left = branches.len();
     for branch in branches {
@@ -117,7 +123,7 @@ fn case_value<R: Reader>(
     Ok(None)
 }
 
-/// Whether the choice has the value among its own; none where a name of it stands for no value.
+/// Whether the choice has this value among its own; none where a name of it has no value.
 #[cycle(evaluation)]
 fn choice_allows<R: Reader>(
     alloc: Global,
@@ -126,7 +132,8 @@ fn choice_allows<R: Reader>(
     choice: &Choice,
     v: &Value,
 ) -> Result<Option<bool>, NoMemory>
-    ensures { IfOk result (λ b. b ≡ spec.choice_allows choice.now (R.reads now.now) (R.reads after.now) v.now) }
+    ensures { IfOk result (λ b. b
+        ≡ spec.choice_allows choice.now (R.reads now.now) (R.reads after.now) v.now) }
 {
     match choice {
         Choice::Each(parts) => parts_allow(alloc, now, after, parts.as_slice(), v),
@@ -142,7 +149,9 @@ fn parts_allow<R: Reader>(
     parts: &[Expr],
     v: &Value,
 ) -> Result<Option<bool>, NoMemory>
-    ensures { IfOk result (λ b. b ≡ spec.parts_allow (R.reads now.now) (R.reads after.now) v.now (map spec.sense_of parts.now)) }
+    ensures { IfOk result (λ b. b
+        ≡ spec.parts_allow (R.reads now.now) (R.reads after.now) v.now
+        (map spec.denotation_of parts.now)) }
 {
     let mut found = false;
     for part in parts {
@@ -154,8 +163,7 @@ fn parts_allow<R: Reader>(
     Ok(Some(found))
 }
 
-/// Whether the value is one of those that an expression allows as a right side; none where a name
-/// stands for no value.
+/// Whether an expression allows this value as a right side; none where a name of it has no value.
 #[cycle(evaluation)]
 pub fn allows<R: Reader>(
     alloc: Global,
@@ -164,7 +172,8 @@ pub fn allows<R: Reader>(
     e: &Expr,
     v: &Value,
 ) -> Result<Option<bool>, NoMemory>
-    ensures { IfOk result (λ b. b ≡ (spec.sense_of e.now).allows (R.reads now.now) (R.reads after.now) v.now) }
+    ensures { IfOk result (λ b. b
+        ≡ (spec.denotation_of e.now).allows (R.reads now.now) (R.reads after.now) v.now) }
 {
     match e {
         Expr::Pick(choice) => choice_allows(alloc, now, after, choice, v),
@@ -184,7 +193,9 @@ fn case_allows<R: Reader>(
     branches: &[Branch],
     v: &Value,
 ) -> Result<Option<bool>, NoMemory>
-    ensures { IfOk result (λ b. b ≡ spec.case_allows (R.reads now.now) (R.reads after.now) (map spec.branch_sense_of branches.now) v.now) }
+    ensures { IfOk result (λ b. b
+        ≡ spec.case_allows (R.reads now.now) (R.reads after.now)
+        (map spec.branch_denotation_of branches.now) v.now) }
 {
     let mut left = branches.len();
     for branch in branches {

@@ -1,259 +1,133 @@
-//! Whether constraints and assignments are met in a state, or at a step from the state before it.
+//! The items of modules, in text order.
 
-ghost use Rattle.std.specs.Prelude.{◌≡◌, ◌<◌, IfOk, IfSome, length, map};
-ghost use Rattle.smv_meaning.specs.Runs as spec;
-ghost use Rattle.smv_meaning.specs.Runs.{assignment_item};
-ghost use Rattle.smv_meaning.specs.Checking as checking;
-ghost use Rattle.smv_meaning.specs.Value.{is_true as is_true_value};
-ghost use Rattle.smv_meaning.specs.Items as items;
+ghost use Rattle.std.specs.Prelude.{◌≡◌, ◌++◌, [], IfOk, OnOk};
+ghost use Rattle.smv_meaning.specs.Items as spec;
 
-use crate::evaluation::{allows, value};
-use crate::operators::truth;
-use crate::run::RunState;
-use crate::value::Value;
-use crate::worth::{Net, RowReader, variable_value};
-use smv_ast::{Assignment, Expr, Left, NoMemory, Section, Span};
+use smv_ast::{
+    Assignment, Declaration, Declared, Definition, Expr, List, Module, NoMemory, Program, Section,
+    Span,
+};
 use std::alloc::Global;
+use std::slice;
 
-/// A written state, and what each slot is worth in it.
+/// The role of the expression of a constraint or a spec.
+#[derive(Clone, Copy, Debug, PartialEq, Eq)]
+pub enum Role {
+    /// INIT: it is true in first states.
+    Init,
+    /// INVAR: it is true in all states.
+    Invariant,
+    /// TRANS: it is true at all steps.
+    Transition,
+    /// INVARSPEC: whether it is true in all reachable states is the question.
+    Spec,
+}
+
+/// An item of a module.
 #[derive(Clone, Copy, Drop)]
-pub struct View<'t> {
-    pub written: &'t RunState,
-    pub table: &'t [Option<Value>],
+pub enum Item<'a> {
+    Declaration(&'a Declaration),
+    Assignment(&'a Assignment),
+    Definition(&'a Definition),
+    Constraint(Role, &'a Expr, Span),
 }
 
-fn reader<'t>(net: &'t Net<'t>, row: usize, view: View<'t>) -> RowReader<'t>
-    ensures { result ≡ record { net = net.entry; row = row; table = view.entry.table } }
+fn no_exprs<'a>() -> &'a [Expr]
+    ensures { result.now ≡ [] }
 {
-    RowReader {
-        net,
-        row,
-        table: view.table,
+    &[]
+}
+
+fn declared_exprs<'a>(what: &'a Declared) -> &'a [Expr]
+    ensures { result.now ≡ spec.declared_exprs what.now }
+{
+    match what {
+        Declared::Plain(_) => no_exprs(),
+        Declared::Instance { actuals, .. } => actuals.as_slice(),
     }
 }
 
-/// The value of an expression in a state and the state after it.
-fn value_at<'t>(
-    alloc: Global,
-    net: &'t Net<'t>,
-    row: usize,
-    now: View<'t>,
-    after: View<'t>,
-    e: &Expr,
-) -> Result<Option<Value>, NoMemory>
-    requires right { checking.IsRightNet net.now }
-    requires row { row < length net.now.tree.now.rows }
-    requires now { items.IsView net.now now }
-    requires after { items.IsView net.now after }
-    ensures { IfOk result (λ v. v ≡ items.value_row net.now row now.entry after.entry e.now) }
-{
-    let found = value(alloc, &reader(net, row, now), &reader(net, row, after), e)?;
-    Ok(found)
-}
-
-/// Whether an expression allows a value in a state and the state after it.
-fn allows_at<'t>(
-    alloc: Global,
-    net: &'t Net<'t>,
-    row: usize,
-    now: View<'t>,
-    after: View<'t>,
-    e: &Expr,
-    v: &Value,
-) -> Result<Option<bool>, NoMemory>
-    requires right { checking.IsRightNet net.now }
-    requires row { row < length net.now.tree.now.rows }
-    requires now { items.IsView net.now now }
-    requires after { items.IsView net.now after }
-    ensures { IfOk result (λ b. b ≡ items.allows_row net.now row now.entry after.entry e.now v.now) }
-{
-    let found = allows(
-        alloc,
-        &reader(net, row, now),
-        &reader(net, row, after),
-        e,
-        v,
-    )?;
-    Ok(found)
-}
-
-/// The value that a state gives a variable of an instance.
-fn own_value(
-    alloc: Global,
-    net: &Net,
-    row: usize,
-    view: View,
-    name: &str,
-) -> Result<Option<Value>, NoMemory>
-    requires { row < length net.now.tree.now.rows }
-    ensures { IfOk result (λ v. v ≡ items.own_row net.now row view.entry name.now) }
-{
-    let found = variable_value(alloc, net, view.written, row, name)?;
-    Ok(found)
-}
-
-fn is_true(found: Option<Value>) -> bool
-    ensures { result ≡ is_true_value found }
-{
-    match found {
-        Some(value) => match truth(&value) {
-            Some(holds) => holds,
-            None => false,
-        },
-        None => false,
-    }
-}
-
-/// Whether an expression is true in a state and the state after it.
-pub fn is_true_in<'t>(
-    alloc: Global,
-    net: &'t Net<'t>,
-    row: usize,
-    now: View<'t>,
-    after: View<'t>,
-    e: &Expr,
-) -> Result<bool, NoMemory>
-    requires right { checking.IsRightNet net.now }
-    requires row { row < length net.now.tree.now.rows }
-    requires now { items.IsView net.now now }
-    requires after { items.IsView net.now after }
-    ensures { IfOk result (λ b. b ≡ items.true_in net.now row now.entry after.entry e.now) }
-{
-    Ok(is_true(value_at(alloc, net, row, now, after, e)?))
-}
-
-/// Whether a variable has in one state a value that its right side allows in a state and the state
-/// after it.
-fn is_assigned<'t>(
-    alloc: Global,
-    net: &'t Net<'t>,
-    row: usize,
-    own: View<'t>,
-    now: View<'t>,
-    after: View<'t>,
-    assignment: &Assignment,
-) -> Result<bool, NoMemory>
-    requires right { checking.IsRightNet net.now }
-    requires row { row < length net.now.tree.now.rows }
-    requires now { items.IsView net.now now }
-    requires after { items.IsView net.now after }
-    ensures { IfOk result (λ b. b ≡ items.assigned_in net.now row own.entry now.entry after.entry assignment.now.name assignment.now.right) }
-{
-    match own_value(alloc, net, row, own, assignment.name.as_str())? {
-        Some(held) => match allows_at(alloc, net, row, now, after, &assignment.right, &held)? {
-            Some(allowed) => Ok(allowed),
-            None => Ok(false),
-        },
-        None => Ok(false),
-    }
-}
-
-/// Whether an assignment is met in a state and the one before it, if there is one.
-fn assignment_met<'t>(
-    alloc: Global,
-    net: &'t Net<'t>,
-    row: usize,
-    before: Option<View<'t>>,
-    now: View<'t>,
-    assignment: &Assignment,
-) -> Result<bool, NoMemory>
-    requires right { checking.IsRightNet net.now }
-    requires row { row < length net.now.tree.now.rows }
-    requires before { IfSome before (items.IsView net.now) }
-    requires now { items.IsView net.now now }
-    ensures { IfOk result (λ b. b ≡ items.met_in net.now row before.entry now.entry (items.demand_of assignment.now)) }
-{
-    match (assignment.left, before) {
-        (Left::Now, _) | (Left::Init, None) => {
-            is_assigned(alloc, net, row, now, now, now, assignment)
-        }
-        (Left::Next, Some(before)) => is_assigned(alloc, net, row, now, before, now, assignment),
-        (Left::Init, Some(_)) | (Left::Next, None) => Ok(true),
-    }
-}
-
-/// The place of an item that is not met.
-fn told(met: bool, at: Span) -> Option<Span>
-    ensures { result ≡ spec.told met at }
-{
-    if met { None } else { Some(at) }
-}
-
-fn assignments_broken<'t>(
-    alloc: Global,
-    net: &'t Net<'t>,
-    row: usize,
-    before: Option<View<'t>>,
-    now: View<'t>,
-    assignments: &[Assignment],
-) -> Result<Option<Span>, NoMemory>
-    requires right { checking.IsRightNet net.now }
-    requires row { row < length net.now.tree.now.rows }
-    requires before { IfSome before (items.IsView net.now) }
-    requires now { items.IsView net.now now }
-    ensures { IfOk result (λ b. b ≡ items.first_told net.now row before.entry now.entry (map assignment_item assignments.now)) }
-{
-    for assignment in assignments {
-        let met = assignment_met(alloc, net, row, before, now, assignment)?;
-        if !met {
-            return Ok(Some(assignment.at));
+impl<'a> Item<'a> {
+    /// The span of the item.
+    pub fn at(&self) -> Span
+        ensures { result ≡ spec.at_of (spec.item_view self.now) }
+    {
+        match self {
+            Item::Declaration(declaration) => declaration.at,
+            Item::Assignment(assignment) => assignment.at,
+            Item::Definition(definition) => definition.at,
+            Item::Constraint(_, _, at) => *at,
         }
     }
-    Ok(None)
+
+    /// The expressions of the item, in text order: the actuals of an instance, a right side, or the
+    /// expression of a constraint or a spec.
+    pub fn exprs(&self) -> &'a [Expr]
+        ensures { result.now ≡ spec.exprs_of (spec.item_view self.now) }
+    {
+        match *self {
+            Item::Declaration(declaration) => declared_exprs(&declaration.what),
+            Item::Assignment(assignment) => slice::from_ref(&assignment.right),
+            Item::Definition(definition) => slice::from_ref(&definition.right),
+            Item::Constraint(_, e, _) => slice::from_ref(e),
+        }
+    }
 }
 
-/// The first item of a section that is not met in a state and the one before it, if there is one.
-fn section_broken<'t>(
-    alloc: Global,
-    net: &'t Net<'t>,
-    row: usize,
-    before: Option<View<'t>>,
-    now: View<'t>,
-    section: &Section,
-) -> Result<Option<Span>, NoMemory>
-    requires right { checking.IsRightNet net.now }
-    requires row { row < length net.now.tree.now.rows }
-    requires before { IfSome before (items.IsView net.now) }
-    requires now { items.IsView net.now now }
-    ensures { IfOk result (λ b. b ≡ items.first_told net.now row before.entry now.entry (spec.section_items section.now)) }
+fn push_section<'a>(items: &mut List<Item<'a>>, section: &'a Section) -> Result<(), NoMemory>
+    ensures { OnOk result (spec.items_view items.new ≡ spec.items_view items.old
+        ++ spec.section_items section.now) }
 {
     match section {
-        Section::Assigns(assignments) => {
-            assignments_broken(alloc, net, row, before, now, assignments.as_slice())
+        Section::Vars(declarations) => {
+            for declaration in declarations.as_slice() {
+                items.push(Item::Declaration(declaration))?;
+            }
         }
-        Section::Init(e, at) => match before {
-            None => Ok(told(is_true_in(alloc, net, row, now, now, e)?, *at)),
-            Some(_) => Ok(None),
-        },
-        Section::Invar(e, at) => Ok(told(is_true_in(alloc, net, row, now, now, e)?, *at)),
-        Section::Trans(e, at) => match before {
-            Some(before) => Ok(told(is_true_in(alloc, net, row, before, now, e)?, *at)),
-            None => Ok(None),
-        },
-        _ => Ok(None),
+        Section::Assigns(assignments) => {
+            for assignment in assignments.as_slice() {
+                items.push(Item::Assignment(assignment))?;
+            }
+        }
+        Section::Defines(definitions) => {
+            for definition in definitions.as_slice() {
+                items.push(Item::Definition(definition))?;
+            }
+        }
+        Section::Init(e, at) => items.push(Item::Constraint(Role::Init, e, *at))?,
+        Section::Invar(e, at) => items.push(Item::Constraint(Role::Invariant, e, *at))?,
+        Section::Trans(e, at) => items.push(Item::Constraint(Role::Transition, e, *at))?,
+        Section::InvarSpec(e, at) => items.push(Item::Constraint(Role::Spec, e, *at))?,
     }
+    Ok(())
 }
 
-/// The first item of these sections that is not met.
-pub fn sections_broken<'t>(
-    alloc: Global,
-    net: &'t Net<'t>,
-    row: usize,
-    before: Option<View<'t>>,
-    now: View<'t>,
-    sections: &[Section],
-) -> Result<Option<Span>, NoMemory>
-    requires right { checking.IsRightNet net.now }
-    requires row { row < length net.now.tree.now.rows }
-    requires before { IfSome before (items.IsView net.now) }
-    requires now { items.IsView net.now now }
-    ensures { IfOk result (λ b. b ≡ items.first_told net.now row before.entry now.entry (spec.all_items sections.now)) }
+fn push_module<'a>(items: &mut List<Item<'a>>, owner: &'a Module) -> Result<(), NoMemory>
+    ensures { OnOk result (spec.items_view items.new ≡ spec.items_view items.old
+        ++ spec.items owner.now) }
 {
-    for section in sections {
-        match section_broken(alloc, net, row, before, now, section)? {
-            Some(at) => return Ok(Some(at)),
-            None => {}
-        }
+    for section in owner.sections.as_slice() {
+        push_section(items, section)?;
     }
-    Ok(None)
+    Ok(())
+}
+
+/// The items of a module. The only error is `NoMemory`.
+pub fn items_of<'a>(alloc: Global, owner: &'a Module) -> Result<List<Item<'a>>, NoMemory>
+    ensures { IfOk result (λ items. spec.items_view items ≡ spec.items owner.now) }
+{
+    let mut items = List::new(alloc);
+    push_module(&mut items, owner)?;
+    Ok(items)
+}
+
+/// The items of all modules. The only error is `NoMemory`.
+pub fn program_items<'a>(alloc: Global, program: &'a Program) -> Result<List<Item<'a>>, NoMemory>
+    ensures { IfOk result (λ items. spec.items_view items ≡ spec.program_items program.now) }
+{
+    let mut items = List::new(alloc);
+    for owner in program.modules.as_slice() {
+        push_module(&mut items, owner)?;
+    }
+    Ok(items)
 }

@@ -1,25 +1,27 @@
-//! What models mean: values, instances, states, runs.
+//! The semantics of models: values, instances, states, runs.
 #![tactic(auto)]
 
+pub mod aliases;
 mod check;
 pub mod entries;
 pub mod evaluation;
+pub mod instance_texts;
+pub mod item_index;
 pub mod items;
-pub mod least;
 pub mod mentions;
+pub mod met_items;
 pub mod names;
-pub mod net;
 pub mod operators;
 pub mod order;
+pub mod rules;
 mod run;
 pub mod scope;
 pub mod sections;
 mod spec;
-pub mod standing;
 pub mod symbols;
-pub mod tree;
+pub mod table;
+pub mod valuation;
 mod value;
-pub mod worth;
 
 pub use check::check_run;
 pub use run::{Named, Run, RunAnswer, RunState};

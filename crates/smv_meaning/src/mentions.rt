@@ -45,7 +45,8 @@ fn push_branch_paths<'a>(
 
 #[tactic(auto, using(crate::proofs::MentionLemmas::pointed_push))]
 fn push_path<'a>(paths: &mut Vec<&'a Path>, path: &'a Path) -> Result<(), AllocError>
-    ensures { OnOk result (spec.pointed paths.new.items ≡ spec.pointed paths.old.items ++ path.now ∷ []) }
+    ensures { OnOk result (spec.pointed paths.new.items ≡ spec.pointed paths.old.items
+        ++ path.now ∷ []) }
 {
     paths.push(path)?;
     Ok(())
@@ -54,7 +55,8 @@ fn push_path<'a>(paths: &mut Vec<&'a Path>, path: &'a Path) -> Result<(), AllocE
 /// Adds the paths of the expression, in the order of the text.
 #[cycle(paths)]
 pub fn push_paths<'a>(paths: &mut Vec<&'a Path>, e: &'a Expr) -> Result<(), AllocError>
-    ensures { OnOk result (spec.pointed paths.new.items ≡ spec.pointed paths.old.items ++ spec.paths_of e.now) }
+    ensures { OnOk result (spec.pointed paths.new.items ≡ spec.pointed paths.old.items
+        ++ spec.paths_of e.now) }
 {
     match e {
         Expr::True | Expr::False | Expr::Number(_) => Ok(()),

@@ -2,12 +2,12 @@
 
 ghost use Rattle.std.specs.Prelude.{◌≡◌, IfOk};
 ghost use Rattle.std.specs.Option.{option_map};
-ghost use Rattle.smv_meaning.specs.Entries.{meaning_seen, all_seen, meaning_among, first_place};
+ghost use Rattle.smv_meaning.specs.Entries.{entity_view, entries_view, entity_among, first_index};
 ghost use Rattle.smv_meaning.specs.Instances as spec;
-ghost use Rattle.smv_meaning.specs.Places.{number_held, TellsPlaces};
+ghost use Rattle.smv_meaning.specs.Indices.{number_held, IsIndexOf};
 ghost use Rattle.smv_meaning.specs.Value.{Name};
 
-use crate::entries::{Entry, Meaning, entries_of};
+use crate::entries::{Entity, Entry, entries_of};
 use smv_ast::{List, Module, NoMemory};
 use sqlite_items::at;
 use std::alloc::Global;
@@ -17,50 +17,52 @@ use std::collections::HashMap;
 #[derive(Drop)]
 pub struct Names<'a> {
     pub entries: List<Entry<'a>>,
-    /// Where the first entry of each name stands.
-    places: HashMap<&'a str, usize>,
-    ghost told: { (name : Name) → number_held places name ≡ first_place name (all_seen entries) },
+    /// The index of the first entry of each name.
+    positions: HashMap<&'a str, usize>,
+    ghost is_index: { (name : Name) → number_held positions name
+        ≡ first_index name (entries_view entries) },
 }
 
-/// Where the first entry of each name stands.
+/// The index of the first entry of each name.
 fn places_of<'a>(alloc: Global, entries: &[Entry<'a>]) -> Result<HashMap<&'a str, usize>, NoMemory>
-    ensures { IfOk result (TellsPlaces (all_seen entries.now)) }
+    ensures { IfOk result (IsIndexOf (entries_view entries.now)) }
 {
-    let mut places = HashMap::new(alloc);
+    let mut positions = HashMap::new(alloc);
     let mut left = entries.len();
-    // The first entry of a name counts, so it is put in last.
+    // The first entry of a name takes precedence, so it is inserted last.
     while left > 0 {
         left -= 1;
         let name = entries[left].name;
-        places.insert(name.as_str(), left)?;
+        positions.insert(name.as_str(), left)?;
     }
-    Ok(places)
+    Ok(positions)
 }
 
 impl<'a> Names<'a> {
-    /// The names of a module: its formals, then those of its sections.
+    /// The names of a module: its formals, then the names of its sections.
     pub fn of_module(alloc: Global, owner: &'a Module) -> Result<Names<'a>, NoMemory>
-        ensures { IfOk result (λ names. all_seen names.entries ≡ spec.entries owner.now) }
+        ensures { IfOk result (λ names. entries_view names.entries ≡ spec.entries owner.now) }
     {
         let entries = entries_of(alloc, owner)?;
-        let places = places_of(alloc, entries.as_slice())?;
-        Ok(Names { entries, places })
+        let positions = places_of(alloc, entries.as_slice())?;
+        Ok(Names { entries, positions })
     }
 
-    /// Where the first entry of a name stands.
-    pub fn place_of(&self, name: &str) -> Option<usize>
-        ensures { result ≡ first_place name.now (all_seen self.now.entries) }
+    /// The index of the first entry of a name.
+    pub fn index_of(&self, name: &str) -> Option<usize>
+        ensures { result ≡ first_index name.now (entries_view self.now.entries) }
     {
-        self.places.get(name).copied()
+        self.positions.get(name).copied()
     }
 
-    /// What a name stands for; the first entry of that name counts.
-    pub fn meaning_of(&self, name: &str) -> Option<Meaning<'a>>
-        ensures { option_map meaning_seen result ≡ meaning_among (all_seen self.now.entries) name.now }
+    /// The entity of a name; of equal names the first takes precedence.
+    pub fn entity_of(&self, name: &str) -> Option<Entity<'a>>
+        ensures { option_map entity_view result
+            ≡ entity_among (entries_view self.now.entries) name.now }
     {
-        match self.place_of(name) {
-            Some(place) => match at(self.entries.as_slice(), place).copied() {
-                Some(entry) => Some(entry.meaning),
+        match self.index_of(name) {
+            Some(instance) => match at(self.entries.as_slice(), instance).copied() {
+                Some(entry) => Some(entry.entity),
                 None => None,
             },
             None => None,

@@ -1,5 +1,4 @@
-//! What operators make of values. Where an operator has no meaning at values of these kinds, there
-//! is no value.
+//! Operators on values. An operator that is not defined on values of these kinds has no result.
 
 ghost use Rattle.std.specs.Prelude.{◌≡◌, ◌+ℤ◌, ◌-ℤ◌, ◌*ℤ◌, neg_ℤ};
 ghost use Rattle.smv_meaning.specs.Value as spec;
@@ -7,7 +6,7 @@ ghost use Rattle.smv_meaning.specs.Value as spec;
 use crate::value::Value;
 use smv_ast::Op;
 
-/// A truth value. 0 and 1 serve as FALSE and TRUE.
+/// The truth value of a value; 0 and 1 are read as FALSE and TRUE.
 pub fn truth(value: &Value) -> Option<bool>
     ensures { result ≡ spec.truth value.now }
 {
@@ -28,7 +27,7 @@ fn is_truth(expected: bool, found: Option<bool>) -> bool
     }
 }
 
-/// Whether two values are one. Beside a truth value 0 and 1 are truth values.
+/// Whether two values are equal. Compared with a truth value, 0 and 1 are truth values.
 pub fn same(a: &Value, b: &Value) -> bool
     ensures { result ≡ spec.same a.now b.now }
 {
@@ -96,7 +95,7 @@ fn remainder(m: i64, n: i64) -> Option<Value>
     Some(Value::Number(m % n))
 }
 
-/// What an operator on two numbers makes of them; no other operator makes anything of them here.
+/// The result of an operator on two numbers; none for any other operator.
 fn of_numbers(op: Op, m: i64, n: i64) -> Option<Value>
     ensures { result ≡ spec.of_numbers op m n }
 {
@@ -113,7 +112,7 @@ fn of_numbers(op: Op, m: i64, n: i64) -> Option<Value>
     }
 }
 
-/// What an operator on two truth values makes of them; no other operator makes anything of them here.
+/// The result of an operator on two truth values; none for any other operator.
 fn of_truths(op: Op, a: bool, b: bool) -> Option<Value>
     ensures { result ≡ spec.of_truths op a b }
 {
@@ -128,7 +127,7 @@ fn of_truths(op: Op, a: bool, b: bool) -> Option<Value>
     Some(Value::Boolean(made))
 }
 
-/// What an operator makes of two values.
+/// The result of an operator on two values.
 pub fn operate(op: Op, a: &Value, b: &Value) -> Option<Value>
     ensures { result ≡ spec.operate op a.now b.now }
 {
@@ -148,7 +147,7 @@ pub fn operate(op: Op, a: &Value, b: &Value) -> Option<Value>
     }
 }
 
-/// The number with its sign turned.
+/// The number with the opposite sign.
 pub fn negated(value: &Value) -> Option<Value>
     ensures { result ≡ spec.negated value.now }
 {
@@ -158,9 +157,9 @@ pub fn negated(value: &Value) -> Option<Value>
     }
 }
 
-/// The other truth value.
-pub fn denied(value: &Value) -> Option<Value>
-    ensures { result ≡ spec.denied value.now }
+/// The opposite truth value.
+pub fn logical_not(value: &Value) -> Option<Value>
+    ensures { result ≡ spec.logical_not value.now }
 {
     match truth(value) {
         Some(truth) => Some(Value::Boolean(!truth)),

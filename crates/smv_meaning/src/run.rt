@@ -10,13 +10,13 @@ pub struct Named {
     pub value: Value,
 }
 
-/// The values of the variables. Of two values for one path the first counts.
+/// The values of the variables. Of two values for one path the first takes precedence.
 #[derive(Drop)]
 pub struct RunState {
     pub values: List<Named>,
 }
 
-/// States one after another.
+/// A list of states.
 #[derive(Drop)]
 pub struct Run {
     pub states: List<RunState>,
@@ -26,7 +26,7 @@ pub struct Run {
 #[derive(Clone, Copy, Debug, PartialEq, Eq)]
 pub enum RunAnswer {
     Run,
-    /// The state of this number, counted from 0, is the first at which a constraint or an assignment
-    /// breaks; `item` is the first that does. A step counts at its later state.
+    /// The first state, counted from 0, at which a constraint or an assignment breaks, and the
+    /// first `item` that does. A step belongs to its later state.
     Breaks { step: u32, item: Span },
 }

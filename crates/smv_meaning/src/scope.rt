@@ -3,8 +3,8 @@
 ghost use Rattle.std.specs.Prelude.{◌≡◌, ℕ, List, [], IfOk, OnOk, map, length, Some, slice_get, if◌then◌else◌};
 ghost use Rattle.std.specs.Str.{bytes_eq};
 ghost use Rattle.std.specs.Option.{option_copied};
-ghost use Rattle.smv_meaning.specs.Entries.{all_seen};
-ghost use Rattle.smv_meaning.specs.Scopes.{scope_seen, scopes_of as scopes_of_program, entries_in, names_found, scope_found, names_by, TellsModules};
+ghost use Rattle.smv_meaning.specs.Entries.{entries_view};
+ghost use Rattle.smv_meaning.specs.Scopes.{scope_view, scopes_of as scopes_of_program, entries_in, names_found, scope_found, names_by, IsModuleIndex};
 
 use crate::entries::Entry;
 use crate::names::Names;
@@ -22,7 +22,7 @@ pub struct Scope<'a> {
 
 /// The modules of a program, in the order of the text.
 pub fn scopes_of<'a>(alloc: Global, program: &'a Program) -> Result<List<Scope<'a>>, NoMemory>
-    ensures { IfOk result (λ scopes. map scope_seen scopes ≡ scopes_of_program program.now) }
+    ensures { IfOk result (λ scopes. map scope_view scopes ≡ scopes_of_program program.now) }
 {
     let mut scopes = List::new(alloc);
     for owner in program.modules.as_slice() {
@@ -35,7 +35,7 @@ pub fn scopes_of<'a>(alloc: Global, program: &'a Program) -> Result<List<Scope<'
     Ok(scopes)
 }
 
-/// Holds the number of a module under its name.
+/// Inserts the number of a module under its name.
 fn put<'a>(
     numbers: &mut HashMap<&'a str, usize>,
     scopes: &[Scope<'a>],
@@ -44,7 +44,8 @@ fn put<'a>(
 ) -> Result<(), NoMemory>
     requires { slice_get scopes.now k ≡ Some scope.now }
     ensures { OnOk result ((other : List ℕ) → names_by scopes.now numbers.new other
-        ≡ (if bytes_eq scope.now.name.now other then all_seen scope.now.names.entries else names_by scopes.now numbers.old other)) }
+        ≡ (if bytes_eq scope.now.name.now other then entries_view scope.now.names.entries else
+        names_by scopes.now numbers.old other)) }
 {
     numbers.insert(scope.name.as_str(), k)?;
     Ok(())
@@ -55,11 +56,11 @@ pub fn modules_by_name<'a>(
     alloc: Global,
     scopes: &[Scope<'a>],
 ) -> Result<HashMap<&'a str, usize>, NoMemory>
-    ensures { IfOk result (TellsModules scopes.now) }
+    ensures { IfOk result (IsModuleIndex scopes.now) }
 {
     let mut numbers = HashMap::new(alloc);
     let mut left = scopes.len();
-    // The first module of a name counts, so it is put in last.
+    // The first module of a name takes precedence, so it is inserted last.
     while left > 0 {
         left -= 1;
         put(&mut numbers, scopes, left, &scopes[left])?;
@@ -67,7 +68,7 @@ pub fn modules_by_name<'a>(
     Ok(numbers)
 }
 
-/// The module that has the number that is held under a name.
+/// The module whose number a name maps to.
 fn scope_named<'s, 'a>(
     scopes: &'s [Scope<'a>],
     numbers: &HashMap<&'a str, usize>,
@@ -87,8 +88,8 @@ pub fn names_in<'s, 'a>(
     numbers: &HashMap<&'a str, usize>,
     name: &str,
 ) -> Option<&'s Names<'a>>
-    requires { TellsModules scopes.now numbers.now }
-    ensures { names_found (option_copied result) ≡ entries_in (map scope_seen scopes.now) name.now }
+    requires { IsModuleIndex scopes.now numbers.now }
+    ensures { names_found (option_copied result) ≡ entries_in (map scope_view scopes.now) name.now }
 {
     match scope_named(scopes, numbers, name) {
         Some(scope) => Some(&scope.names),
@@ -102,9 +103,9 @@ fn no_entries<'s, 'a>() -> &'s [Entry<'a>]
     &[]
 }
 
-/// The names that were found, one by one; none where there are none.
+/// The entries of the names that were found; none where there are none.
 pub fn entries_found<'s, 'a>(names: Option<&'s Names<'a>>) -> &'s [Entry<'a>]
-    ensures entries { all_seen result.now ≡ names_found (option_copied names.entry) }
+    ensures entries { entries_view result.now ≡ names_found (option_copied names.entry) }
     ensures count { length result.now ≡ length (names_found (option_copied names.entry)) }
 {
     let Some(names) = names else {

@@ -6,19 +6,19 @@ ghost use Rattle.smv_meaning.specs.Checking as checking;
 ghost use Rattle.smv_meaning.specs.RunCheck as check;
 ghost use Rattle.smv_meaning.specs.Sections as spec;
 
-use crate::tree::{Link, Tree};
+use crate::table::{InstanceTable, Link};
 use smv_ast::{NoMemory, Program, Section};
 use std::alloc::Global;
 use std::collections::HashMap;
 
-/// The sections of the modules of a program, looked up by name; of two modules of one name those of
-/// the first.
+/// The sections of the modules of a program, looked up by name; of two modules of one name the
+/// first takes precedence.
 #[derive(Drop)]
 pub struct SectionsByName<'p> {
     by_name: HashMap<&'p str, &'p [Section]>,
 }
 
-/// Holds the sections of a module under its name.
+/// Inserts the sections of a module under its name.
 #[tactic(auto, using(crate::proofs::SectionLemmas::after_insert))]
 fn put<'p>(
     by_name: &mut HashMap<&'p str, &'p [Section]>,
@@ -26,7 +26,8 @@ fn put<'p>(
     sections: &'p [Section],
 ) -> Result<(), NoMemory>
     ensures { OnOk result ((other : List ℕ) → spec.sections_held by_name.new other
-        ≡ (if bytes_eq name.now other then sections.now else spec.sections_held by_name.old other)) }
+        ≡ (if bytes_eq name.now other then sections.now else spec.sections_held by_name.old
+        other)) }
 {
     by_name.insert(name, sections)?;
     Ok(())
@@ -35,12 +36,12 @@ fn put<'p>(
 impl<'p> SectionsByName<'p> {
     /// The sections of each module of the program.
     pub fn of_program(alloc: Global, program: &'p Program) -> Result<SectionsByName<'p>, NoMemory>
-        ensures { IfOk result (spec.TellsSections program.now) }
+        ensures { IfOk result (spec.IsSectionIndex program.now) }
     {
         let modules = program.modules.as_slice();
         let mut by_name = HashMap::new(alloc);
         let mut left = modules.len();
-        // The first module of a name counts, so it is put in last.
+        // The first module of a name takes precedence, so it is inserted last.
         while left > 0 {
             left -= 1;
             let owner = &modules[left];
@@ -59,7 +60,7 @@ impl<'p> SectionsByName<'p> {
         }
     }
 
-    /// The sections of an instance of this link; none where there is no such module.
+    /// The sections of the instance with this link; none where there is no such module.
     pub fn of_link(&self, link: Option<Link>) -> &'p [Section]
         ensures { result.now ≡ spec.sections_linked self.now link.entry }
     {
@@ -69,14 +70,14 @@ impl<'p> SectionsByName<'p> {
         }
     }
 
-    /// The sections of the instance of a row of a table. The program is there for the contract alone.
-    pub fn of_row(&self, program: &Program, tree: &Tree, row: usize) -> &'p [Section]
-        requires right { checking.IsRight program.now tree.now }
-        requires tells { spec.TellsSections program.now self.now }
-        requires row { row < length tree.now.rows }
-        ensures { result.now ≡ check.sections_at program.now (checking.stands tree.now row) }
+    /// The sections of the instance of a row of a table. `program` is only there for the contract.
+    pub fn of_row(&self, program: &Program, table: &InstanceTable, row: usize) -> &'p [Section]
+        requires right { checking.IsTableOfProgram program.now table.now }
+        requires is_of { spec.IsSectionIndex program.now self.now }
+        requires row { row < length table.now.rows }
+        ensures { result.now ≡ check.sections_at program.now (checking.instance_at table.now row) }
     {
-        let rows = tree.rows.as_slice();
+        let rows = table.rows.as_slice();
         self.of_link(rows[row].link)
     }
 }

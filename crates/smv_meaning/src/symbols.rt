@@ -55,7 +55,7 @@ fn module_names(sections: &[Section], name: &str) -> bool
     false
 }
 
-/// Whether the name stands in a type of the program.
+/// Whether the name is a symbol of a type of the program.
 pub fn is_symbol(program: &Program, name: &str) -> bool
     ensures { result ≡ spec.is_symbol program.now name.now }
 {
@@ -67,7 +67,7 @@ pub fn is_symbol(program: &Program, name: &str) -> bool
     false
 }
 
-/// The symbol that a path of one name is, if it is one.
+/// The symbol that a path of one name denotes, if it denotes one.
 pub fn symbol_of(alloc: Global, program: &Program, path: &[Text]) -> Result<Option<Value>, NoMemory>
     ensures { IfOk result (λ v. v ≡ spec.symbol_of program.now path.now) }
 {

@@ -8,7 +8,7 @@ use smv_ast::{
 use std::alloc::Global;
 use std::test::Fail;
 
-fn place(at: u32) -> Span {
+fn instance(at: u32) -> Span {
     Span { file: 0, at }
 }
 
@@ -17,7 +17,7 @@ fn variable(alloc: Global) -> Result<Expr, NoMemory> {
     names.push(Text::from_str(alloc, "x")?)?;
     Ok(Expr::Name(Path {
         names,
-        at: place(0),
+        at: instance(0),
     }))
 }
 
@@ -55,20 +55,20 @@ fn counter(alloc: Global, last: Expr) -> Result<Program, NoMemory> {
     declarations.push(Declaration {
         name: Text::from_str(alloc, "x")?,
         what: Declared::Plain(SmvType::Range { low: 0, high: 3 }),
-        at: place(16),
+        at: instance(16),
     })?;
     let mut assignments = List::new(alloc);
     assignments.push(Assignment {
         left: Left::Init,
         name: Text::from_str(alloc, "x")?,
         right: Expr::Number(0),
-        at: place(34),
+        at: instance(34),
     })?;
     assignments.push(Assignment {
         left: Left::Next,
         name: Text::from_str(alloc, "x")?,
         right: right_side(alloc, last)?,
-        at: place(49),
+        at: instance(49),
     })?;
     let mut sections = List::new(alloc);
     sections.push(Section::Vars(declarations))?;
@@ -78,7 +78,7 @@ fn counter(alloc: Global, last: Expr) -> Result<Program, NoMemory> {
         name: Text::from_str(alloc, "main")?,
         formals: List::new(alloc),
         sections,
-        at: place(0),
+        at: instance(0),
     })?;
     Ok(Program { modules })
 }
@@ -111,7 +111,7 @@ fn runs_of_a_counter(rt: HostRuntime) -> Result<(), Fail> {
     assert_eq!(rt; jump.states.len(), 2);
     let broken = RunAnswer::Breaks {
         step: 1,
-        item: place(49),
+        item: instance(49),
     };
     assert_eq!(rt; check_run(alloc, &program, &jump)?, broken);
     Ok(())

@@ -6,7 +6,7 @@ ghost use Rattle.smv_meaning.specs.Value as spec;
 use smv_ast::{NoMemory, SmvType, Text};
 use std::alloc::Global;
 
-/// What a variable or an expression may be worth.
+/// The value of a variable or an expression.
 #[derive(Drop)]
 pub enum Value {
     Boolean(bool),

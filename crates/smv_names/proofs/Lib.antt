@@ -1,6 +1,5 @@
 pub mod SetLemmas
 pub mod NumberLemmas
-pub mod TellLemmas
 pub mod SymbolLemmas
 pub mod RowsLemmas
 pub mod KnownLemmas

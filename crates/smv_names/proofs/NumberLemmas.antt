@@ -1,4 +1,4 @@
--- Modules by name, and a map from names to their numbers after one more.
+-- Maps from module names to numbers, after an insertion.
 use Rattle.std.proofs.Common.{◌≡◌, ℕ, suc, ◌+◌, ◌-◌, ◌≤◌, List, [], ◌∷◌, Bool, true, false, cond, Option, Some, None, refl, sym, ◌∙◌, ap, subst, arith}
 use Rattle.std.specs.Prelude.{is_some, slice_get, find}
 use Rattle.std.specs.Str.{bytes_eq}
@@ -10,31 +10,31 @@ use Rattle.smv_meaning.specs.Value.{Name}
 use Rattle.smv_meaning.specs.Runs.{or_else}
 use Rattle.smv_names.specs.Modules.{NumberMap, number_in, number_from}
 
--- the modules that are left, behind those that the map tells
-abbrev pub told_or : NumberMap → ℕ → List Module → Name → Option ℕ
-told_or map k ms name = or_else (number_in map name) (number_from k ms name)
+-- the number that a map has for a name, else that of the first of the modules still to come
+abbrev pub number_or : NumberMap → ℕ → List Module → Name → Option ℕ
+number_or map k ms name = or_else (number_in map name) (number_from k ms name)
 
 bor : Name → Bor Name
 bor name = record { ref_ptr = (0, 0); now = name }
 
--- a name that the map tells already
-pub told_old : (map : NumberMap) (k : ℕ) (m : Module) (more : List Module) (name : Name) → is_some (number_in map m.name) ≡ true → told_or map k (m ∷ more) name ≡ told_or map (k + 1) more name
-told_old map k m more name h = at (bytes_eq m.name name) refl ∙ ap (λ n. told_or map n more name) (let s : suc k ≡ k + 1 = omega arith in s)
+-- a name that the map has already
+pub number_old : (map : NumberMap) (k : ℕ) (m : Module) (more : List Module) (name : Name) → is_some (number_in map m.name) ≡ true → number_or map k (m ∷ more) name ≡ number_or map (k + 1) more name
+number_old map k m more name h = at (bytes_eq m.name name) refl ∙ ap (λ n. number_or map n more name) (let s : suc k ≡ k + 1 = omega arith in s)
   where
     some : (o p q : Option ℕ) → is_some o ≡ true → or_else o p ≡ or_else o q
     some None p q e = cc
     some (Some j) p q e = refl
 
-    at : (b : Bool) → bytes_eq m.name name ≡ b → told_or map k (m ∷ more) name ≡ told_or map (suc k) more name
+    at : (b : Bool) → bytes_eq m.name name ≡ b → number_or map k (m ∷ more) name ≡ number_or map (suc k) more name
     at true e =
         let s : m.name ≡ name = (bytes_eq-Decides m.name name).0 e in
         some (number_in map name) _ _ (subst (λ (x : Name). is_some (number_in map x) ≡ true) s h)
     at false e = ap (λ (b : Bool). or_else (number_in map name) (cond b (Some k) (number_from (suc k) more name))) e
 
--- a name that the map is told
-pub told_new : (map map' : NumberMap) (k : ℕ) (m : Module) (more : List Module) (key : Bor Name) (name : Name) → key.now ≡ m.name → is_some (number_in map m.name) ≡ false → Updates (λ x y. bytes_eq x.now y.now) map map' key (Some k) →
-    told_or map k (m ∷ more) name ≡ told_or map' (k + 1) more name
-told_new map map' k m more key name same h u = at (bytes_eq m.name name) refl ∙ ap (λ n. told_or map' n more name) (let s : suc k ≡ k + 1 = omega arith in s)
+-- a name that is inserted
+pub number_new : (map map' : NumberMap) (k : ℕ) (m : Module) (more : List Module) (key : Bor Name) (name : Name) → key.now ≡ m.name → is_some (number_in map m.name) ≡ false → Updates (λ x y. bytes_eq x.now y.now) map map' key (Some k) →
+    number_or map k (m ∷ more) name ≡ number_or map' (k + 1) more name
+number_new map map' k m more key name same h u = at (bytes_eq m.name name) refl ∙ ap (λ n. number_or map' n more name) (let s : suc k ≡ k + 1 = omega arith in s)
   where
     none : (o p : Option ℕ) → is_some o ≡ false → or_else o p ≡ p
     none None p e = refl
@@ -43,7 +43,7 @@ told_new map map' k m more key name same h u = at (bytes_eq m.name name) refl �
     now : number_in map' name ≡ cond (bytes_eq m.name name) (Some k) (number_in map name)
     now = u.0 (record { ref_ptr = (0, 0); now = name }) ∙ ap (λ (x : Name). cond (bytes_eq x name) (Some k) (number_in map name)) same
 
-    at : (b : Bool) → bytes_eq m.name name ≡ b → told_or map k (m ∷ more) name ≡ told_or map' (suc k) more name
+    at : (b : Bool) → bytes_eq m.name name ≡ b → number_or map k (m ∷ more) name ≡ number_or map' (suc k) more name
     at true e =
         let s : m.name ≡ name = (bytes_eq-Decides m.name name).0 e in
         none (number_in map name) _ (subst (λ (x : Name). is_some (number_in map x) ≡ false) s h)
@@ -53,9 +53,9 @@ told_new map map' k m more key name same h u = at (bytes_eq m.name name) refl �
         ap (λ (b : Bool). or_else (number_in map name) (cond b (Some k) (number_from (suc k) more name))) e
         ∙ sym (ap (λ (o : Option ℕ). or_else o (number_from (suc k) more name)) (now ∙ ap (λ (b : Bool). cond b (Some k) (number_in map name)) e))
 
--- an empty map tells nothing
-pub told_none : (map : NumberMap) (ms : List Module) (name : Name) → IsEmpty map → told_or map 0 ms name ≡ number_from 0 ms name
-told_none map ms name e = ap (λ (o : Option ℕ). or_else o (number_from 0 ms name)) (empty map name e)
+-- an empty map has no name
+pub number_in_empty : (map : NumberMap) (ms : List Module) (name : Name) → IsEmpty map → number_or map 0 ms name ≡ number_from 0 ms name
+number_in_empty map ms name e = ap (λ (o : Option ℕ). or_else o (number_from 0 ms name)) (empty map name e)
   where
     empty : (map : NumberMap) (name : Name) → IsEmpty map → number_in map name ≡ None
     empty map name e = grind (arith, e)

@@ -1,4 +1,4 @@
--- The instances of a program, module by module.
+-- The instances of a program, grouped by module.
 use Rattle.std.proofs.Common.{◌≡◌, ℕ, ◌+◌, ◌<◌, ◌≤◌, Bool, true, false, ◌&&◌, ◌||◌, List, [], ◌∷◌, ◌++◌, length, get_or, take, map, cond, Option, Some, None, refl, sym, ap, ◌∙◌}
 use Rattle.std.specs.Prelude.{not, filter}
 use Rattle.std.specs.List.{list_all}
@@ -6,19 +6,20 @@ use Rattle.std.specs.Str.{bytes_eq}
 use Rattle.std.proofs.lemmas.List.{take_all}
 use Rattle.std.proofs.lemmas.List.Elements.{All-get_or, All-same, All-filter, filter_more}
 use Rattle.smv_ast.specs.declared.program.Program.{Program}
-use Rattle.smv_meaning.specs.declared.tree.Tree.{Tree}
-use Rattle.smv_meaning.specs.declared.tree.Row.{Row}
-use Rattle.smv_meaning.specs.declared.tree.Link.{Link}
+use Rattle.smv_meaning.specs.declared.table.InstanceTable.{InstanceTable}
+use Rattle.smv_meaning.specs.declared.table.Row.{Row}
+use Rattle.smv_meaning.specs.declared.table.Link.{Link}
 use Rattle.smv_meaning.specs.Value.{Name}
-use Rattle.smv_meaning.specs.Instances.{Place, called_at, instances}
-use Rattle.smv_meaning.specs.Tree.{next_place, places}
-use Rattle.smv_meaning.specs.Checking.{IsRight, AreRows, stands}
-use Rattle.smv_meaning.proofs.WorthLemmas.{get_item}
-use Rattle.smv_names.specs.Rows.{RowMap, called_by_link, is_of, rows_held, rows_of, TellsRows}
+use Rattle.smv_meaning.specs.Instances.{Instance, called_at, instances}
+use Rattle.smv_meaning.specs.InstanceTable.{instance_of_link, row_instances}
+use Rattle.smv_meaning.specs.Checking.{IsTableOfProgram, AreRows, instance_at}
+use Rattle.smv_meaning.proofs.ValuationLemmas.{get_item}
+use Rattle.smv_names.specs.Rows.{RowMap, called_by_link, is_of, rows_under, rows_of, AreRowsByModule}
 use Rattle.smv_names.specs.declared.rows.RowsByModule.{RowsByModule}
 use Rattle.smv_names.proofs.SetLemmas.{bytes_eq-swapped}
 
--- each fails the first test or passes the second exactly where all that pass the first pass the second
+-- each element fails the first test or passes the second exactly where all that pass the first pass
+-- the second
 pub all_of : {A : Type 0} (p q : A → Bool) (xs : List A) → list_all (λ x. not (p x) || q x) xs ≡ list_all q (filter p xs)
 all_of p q [] = refl
 all_of {A} p q (x ∷ xs) = at (p x) (all_of p q xs)
@@ -38,42 +39,42 @@ filter_mapped {A} {B} f p (x ∷ xs) = at (p (f x)) (filter_mapped f p xs)
 
 -- ---- modules of instances
 
-called_next : (ps : List Place) (link : Option Link) → called_at (next_place ps link) ≡ called_by_link link
+called_next : (ps : List Instance) (link : Option Link) → called_at (instance_of_link ps link) ≡ called_by_link link
 called_next ps None = refl
 called_next ps (Some link) = refl
 
 -- the module of the instance of a row
-called_is : (program : Program) (tree : Tree) (k : ℕ) (row : Row) → IsRight program tree → k < length tree.rows → row ≡ get_or tree.rows k row → called_at (stands tree k) ≡ called_by_link row.link
-called_is program tree k row right h e = ap called_at (right.rows k row (get_item tree.rows k row h e)).stands ∙ called_next (places tree.rows) row.link
+called_is : (program : Program) (table : InstanceTable) (k : ℕ) (row : Row) → IsTableOfProgram program table → k < length table.rows → row ≡ get_or table.rows k row → called_at (instance_at table k) ≡ called_by_link row.link
+called_is program table k row right h e = ap called_at (right.rows k row (get_item table.rows k row h e)).instance_at ∙ called_next (row_instances table.rows) row.link
 
 -- the numbers of the instances of the module of a name, among these
-abbrev pub rows_among : Tree → Name → List ℕ → List ℕ
-rows_among tree name = filter (λ row. is_of name (stands tree row))
+abbrev pub rows_among : InstanceTable → Name → List ℕ → List ℕ
+rows_among table name = filter (λ row. is_of name (instance_at table row))
 
--- an instance that was put behind those of its module is one more of those that were gone through
-pub one_more : (program : Program) (tree : Tree) (order : List ℕ) (k : ℕ) (row : Row) (called : Name) (old new : RowMap) → IsRight program tree → AreRows tree order → k < length order →
-    row ≡ get_or tree.rows (get_or order k 0) row → called ≡ called_by_link row.link →
-    ((name : Name) → rows_held new name ≡ rows_held old name ++ cond (bytes_eq name called) (get_or order k 0 ∷ []) []) →
-    ((name : Name) → rows_held old name ≡ rows_among tree name (take k order)) → (name : Name) → rows_held new name ≡ rows_among tree name (take (k + 1) order)
-one_more program tree order k row called old new right within h e c put before name =
+-- an instance appended to those of its module is one more of those visited
+pub one_more : (program : Program) (table : InstanceTable) (order : List ℕ) (k : ℕ) (row : Row) (called : Name) (old new : RowMap) → IsTableOfProgram program table → AreRows table order → k < length order →
+    row ≡ get_or table.rows (get_or order k 0) row → called ≡ called_by_link row.link →
+    ((name : Name) → rows_under new name ≡ rows_under old name ++ cond (bytes_eq name called) (get_or order k 0 ∷ []) []) →
+    ((name : Name) → rows_under old name ≡ rows_among table name (take k order)) → (name : Name) → rows_under new name ≡ rows_among table name (take (k + 1) order)
+one_more program table order k row called old new right within h e c put before name =
     let one : ℕ = get_or order k 0 in
-    let here : bytes_eq name called ≡ is_of name (stands tree one) =
-    bytes_eq-swapped name called ∙ ap (λ n. bytes_eq n name) (c ∙ sym (called_is program tree one row right (All-get_or (λ row. row < length tree.rows) order k 0 h within) e)) in
+    let here : bytes_eq name called ≡ is_of name (instance_at table one) =
+    bytes_eq-swapped name called ∙ ap (λ n. bytes_eq n name) (c ∙ sym (called_is program table one row right (All-get_or (λ row. row < length table.rows) order k 0 h within) e)) in
     put name
     ∙ (ap (λ (rows : List ℕ). rows ++ cond (bytes_eq name called) (one ∷ []) []) (before name)
-    ∙ (ap (λ (b : Bool). rows_among tree name (take k order) ++ cond b (one ∷ []) []) here
-    ∙ sym (filter_more (λ row. is_of name (stands tree row)) order k 0 h)))
+    ∙ (ap (λ (b : Bool). rows_among table name (take k order) ++ cond b (one ∷ []) []) here
+    ∙ sym (filter_more (λ row. is_of name (instance_at table row)) order k 0 h)))
 
--- once all were gone through, each module has its instances
-pub all_told : (program : Program) (tree : Tree) (order : List ℕ) (k : ℕ) (held : RowsByModule) → AreRows tree order → map (stands tree) order ≡ instances program → length order ≤ k →
-    ((name : Name) → rows_of held name ≡ rows_among tree name (take k order)) → TellsRows program tree held
-all_told program tree order k held within exact h before =
+-- once all instances are visited, each module has its instances
+pub all_listed : (program : Program) (table : InstanceTable) (order : List ℕ) (k : ℕ) (held : RowsByModule) → AreRows table order → map (instance_at table) order ≡ instances program → length order ≤ k →
+    ((name : Name) → rows_of held name ≡ rows_among table name (take k order)) → AreRowsByModule program table held
+all_listed program table order k held within exact h before =
     record {
       of_each = λ name. record {
-        within = All-same (λ row. row < length tree.rows) (rows_of held name) (rows_among tree name order) (all name) (All-filter (λ row. is_of name (stands tree row)) (λ row. row < length tree.rows) order within);
-        exact = ap (map (stands tree)) (all name) ∙ (filter_mapped (stands tree) (is_of name) order ∙ ap (filter (is_of name)) exact);
+        within = All-same (λ row. row < length table.rows) (rows_of held name) (rows_among table name order) (all name) (All-filter (λ row. is_of name (instance_at table row)) (λ row. row < length table.rows) order within);
+        exact = ap (map (instance_at table)) (all name) ∙ (filter_mapped (instance_at table) (is_of name) order ∙ ap (filter (is_of name)) exact);
       };
     }
   where
-    all : (name : Name) → rows_of held name ≡ rows_among tree name order
-    all name = before name ∙ ap (rows_among tree name) (take_all k order h)
+    all : (name : Name) → rows_of held name ≡ rows_among table name order
+    all name = before name ∙ ap (rows_among table name) (take_all k order h)

@@ -1,4 +1,4 @@
--- Sets of names and numbers after one more.
+-- Sets of names and numbers, after an insertion.
 use Rattle.std.proofs.Common.{◌≡◌, List, Bool, true, false, ◌||◌, cond, refl, sym, ◌∙◌, ap, ℤ}
 use Rattle.std.specs.Str.{bytes_eq}
 use Rattle.std.specs.Ordering.{int_eq}
@@ -26,13 +26,13 @@ either_way true c false e = e
 either_way false c true e = refl
 either_way false c false e = e
 
--- a set after a name more
-pub in_set_seen : (s n : NameSet) (k : Bor Name) → Updates (λ x y. bytes_eq x.now y.now) s n k true → in_set n ≡ and_name (in_set s) k.now
-in_set_seen s n k h = fun_ext (λ name. h.0 (record { ref_ptr = (0, 0); now = name }) ∙ either_way _ _ _ (bytes_eq-swapped k.now name))
+-- a set with one more name
+pub in_set_inserted : (s n : NameSet) (k : Bor Name) → Updates (λ x y. bytes_eq x.now y.now) s n k true → in_set n ≡ and_name (in_set s) k.now
+in_set_inserted s n k h = fun_ext (λ name. h.0 (record { ref_ptr = (0, 0); now = name }) ∙ either_way _ _ _ (bytes_eq-swapped k.now name))
 
--- a set after a number more
-pub has_number_seen : (s n : NumberSet) (k : ℤ) → Updates int_eq s n k true → has_number n ≡ and_number (has_number s) k
-has_number_seen s n k h = fun_ext (λ m. h.0 m ∙ either_way _ _ _ (int_eq-swapped k m))
+-- a set with one more number
+pub has_number_inserted : (s n : NumberSet) (k : ℤ) → Updates int_eq s n k true → has_number n ≡ and_number (has_number s) k
+has_number_inserted s n k h = fun_ext (λ m. h.0 m ∙ either_way _ _ _ (int_eq-swapped k m))
 
 -- an empty set has no name
 pub in_set_empty : (s : NameSet) → IsEmpty s → in_set s ≡ no_name
@@ -42,6 +42,6 @@ in_set_empty s h = fun_ext (λ name. ap (λ (ks : List (Bor Name)). list_any (λ
 pub has_number_empty : (s : NumberSet) → IsEmpty s → has_number s ≡ no_number
 has_number_empty s h = fun_ext (λ m. ap (λ (ks : List ℤ). list_any (int_eq m) ks) h)
 
--- names behind others, one after another
+-- a set with the names of two lists
 pub and_names_append : (seen : Name → Bool) (xs ys : List Name) → and_names seen (xs ++ ys) ≡ and_names (and_names seen xs) ys
 and_names_append seen xs ys = fold-append and_name seen xs ys

@@ -1,4 +1,4 @@
--- How many instances are too many.
+-- The limit on the number of instances.
 use Rattle.std.proofs.Common.{◌≡◌, ◌<◌, Bool, length, None, Some, ap, arith}
 use Rattle.std.specs.Prelude.{if◌then◌else◌}
 use Rattle.std.proofs.lemmas.Bool.{le-ltb}

@@ -1,4 +1,4 @@
--- The first name that stands twice where it may stand once.
+-- The first duplicate name.
 use Rattle.std.specs.Prelude.{Bool, ◌||◌, if◌then◌else◌, List, [], ◌∷◌, ◌++◌, map, Option, Some, None, ℤ}
 use Rattle.std.specs.List.{flat_map}
 use Rattle.std.specs.Fmt.{signed_decimal}
@@ -11,117 +11,115 @@ use Rattle.smv_ast.specs.declared.syntax.SmvType.{SmvType}
 use Rattle.smv_ast.specs.declared.syntax.SmvType.TheVariants as type
 use Rattle.smv_ast.specs.declared.program.Declared.{Declared}
 use Rattle.smv_ast.specs.declared.program.Declared.TheVariants.{Plain, Instance}
-use Rattle.smv_ast.specs.declared.program.Declaration.{Declaration}
-use Rattle.smv_ast.specs.declared.program.Definition.{Definition}
-use Rattle.smv_ast.specs.declared.program.Section.{Section}
-use Rattle.smv_ast.specs.declared.program.Section.TheVariants as section
 use Rattle.smv_ast.specs.declared.program.Module.{Module}
 use Rattle.smv_ast.specs.declared.program.Program.{Program}
 use Rattle.smv_meaning.specs.Value.{Name}
+use Rattle.smv_meaning.specs.Items.{Item, Declares, Defines, items}
 use Rattle.smv_meaning.specs.Runs.{or_else}
 use Rattle.smv_names.specs.Sets.{no_name, and_name, and_names, no_number, and_number}
-use Rattle.smv_names.specs.declared.stated.Stated.{Stated as HeldStated}
+use Rattle.smv_names.specs.declared.declared_names.DeclaredName.{DeclaredName as HeldName}
 
--- a name that a module declares, the place at which it is told, and its type if it is a variable
-pub record Stated : Type 0 where
+-- a name that a module declares, the span that a fault of it reports, and its type if it is a
+-- variable
+pub record DeclaredName : Type 0 where
   pub name : Name
   pub at : Span
   pub type : Option SmvType
 
--- the type to which a reference points, if there is one
-abbrev pub seen_type : Option (Bor SmvType) → Option SmvType
-seen_type = option_map (λ t. t.now)
+-- the type that a reference points to, if there is one
+abbrev pub type_view : Option (Bor SmvType) → Option SmvType
+type_view = option_map (λ t. t.now)
 
--- what a held name says
-abbrev pub stated_seen : HeldStated → Stated
-stated_seen s = record { name = s.name.now; at = s.at; type = seen_type s.type_ }
+-- the declared name that a Rust value represents
+abbrev pub declared_name_view : HeldName → DeclaredName
+declared_name_view s = record { name = s.name.now; at = s.at; type = type_view s.type_ }
 
--- the type of what is declared
+-- the type of a variable, if the declaration is one
 abbrev pub type_of : Declared → Option SmvType
 type_of (Plain t) = Some t
 type_of (Instance called actuals) = None
 
--- a formal, which is told at its module
-abbrev pub stated_formal : Span → Name → Stated
-stated_formal at name = record { name = name; at = at; type = None }
+-- a formal, whose span is its module's
+abbrev pub name_of_formal : Span → Name → DeclaredName
+name_of_formal at name = record { name = name; at = at; type = None }
 
--- a variable or an instance
-abbrev pub stated_declaration : Declaration → Stated
-stated_declaration d = record { name = d.name; at = d.at; type = type_of d.what }
+-- the name of an item, if it is a declaration or a definition
+abbrev pub names_of_item : Item → List DeclaredName
+names_of_item (Declares name what at) = record { name = name; at = at; type = type_of what } ∷ []
+names_of_item (Defines name right at) = record { name = name; at = at; type = None } ∷ []
+names_of_item item = []
 
--- a definition
-abbrev pub stated_definition : Definition → Stated
-stated_definition d = record { name = d.name; at = d.at; type = None }
-
--- the names of a section
-abbrev pub stated_section : Section → List Stated
-stated_section (section.Vars declarations) = map stated_declaration declarations
-stated_section (section.Defines definitions) = map stated_definition definitions
-stated_section s = []
-
--- the names of a module in the order of the text, its formals first
-abbrev pub stated : Module → List Stated
-stated m = map (stated_formal m.at) m.formals ++ flat_map stated_section m.sections
+-- the names of a module in text order, its formals first
+abbrev pub declared_names : Module → List DeclaredName
+declared_names m = map (name_of_formal m.at) m.formals ++ flat_map names_of_item (items m)
 
 -- whether a module declares the name
-abbrev pub declares : List Stated → Name → Bool
+abbrev pub declares : List DeclaredName → Name → Bool
 declares names = and_names no_name (map (λ s. s.name) names)
 
--- a name that is among those that may not stand again
-abbrev pub again : (Name → Bool) → Span → Name → Option Fault
-again seen at name = if seen name then Some (fault.DuplicateName (Some at) name) else None
+-- the fault of a name in a set
+abbrev pub duplicate_name : (Name → Bool) → Span → Name → Option Fault
+duplicate_name seen at name = if seen name then Some (fault.DuplicateName (Some at) name) else None
 
--- a symbol of a type that equals an earlier one or is a name of the module
-abbrev pub again_symbol : (Name → Bool) → (Name → Bool) → Span → Name → Option Fault
-again_symbol declared seen at name = again (λ n. seen n || declared n) at name
+-- the fault of a symbol that equals an earlier one or a name of the module
+abbrev pub duplicate_symbol : (Name → Bool) → (Name → Bool) → Span → Name → Option Fault
+duplicate_symbol declared seen at name = duplicate_name (λ n. seen n || declared n) at name
 
--- the first symbol of a type that equals an earlier one or is a name of the module
-abbrev pub symbol_again : Span → (Name → Bool) → (Name → Bool) → List Name → Option Fault
-symbol_again at declared seen [] = None
-symbol_again at declared seen (name ∷ more) = or_else (again_symbol declared seen at name) (symbol_again at declared (and_name seen name) more)
+-- the first symbol of a type that equals an earlier one or a name of the module
+abbrev pub duplicate_among_symbols : Span → (Name → Bool) → (Name → Bool) → List Name → Option Fault
+duplicate_among_symbols at declared seen [] = None
+duplicate_among_symbols at declared seen (name ∷ more) = or_else
+    (duplicate_symbol declared seen at name)
+    (duplicate_among_symbols at declared (and_name seen name) more)
 
--- a number of a type that equals an earlier one
-abbrev pub again_number : (ℤ → Bool) → Span → ℤ → Option Fault
-again_number seen at n = if seen n then Some (fault.DuplicateName (Some at) (signed_decimal n)) else None
+-- the fault of a number that equals an earlier one
+abbrev pub duplicate_number : (ℤ → Bool) → Span → ℤ → Option Fault
+duplicate_number seen at n = if seen n then Some
+    (fault.DuplicateName (Some at) (signed_decimal n)) else None
 
 -- the first number of a type that equals an earlier one
-abbrev pub number_again : Span → (ℤ → Bool) → List ℤ → Option Fault
-number_again at seen [] = None
-number_again at seen (n ∷ more) = or_else (again_number seen at n) (number_again at (and_number seen n) more)
+abbrev pub duplicate_among_numbers : Span → (ℤ → Bool) → List ℤ → Option Fault
+duplicate_among_numbers at seen [] = None
+duplicate_among_numbers at seen (n ∷ more) = or_else (duplicate_number seen at n)
+    (duplicate_among_numbers at (and_number seen n) more)
 
--- the first value of a type, as it is written, that may not stand there
-abbrev pub value_again : Span → (Name → Bool) → SmvType → Option Fault
-value_again at declared (type.Numbers numbers) = number_again at no_number numbers
-value_again at declared (type.Symbols names) = symbol_again at declared no_name names
-value_again at declared t = None
+-- the first duplicate value of a type, in text order
+abbrev pub duplicate_value : Span → (Name → Bool) → SmvType → Option Fault
+duplicate_value at declared (type.Numbers numbers) = duplicate_among_numbers at no_number numbers
+duplicate_value at declared (type.Symbols names) = duplicate_among_symbols at declared no_name names
+duplicate_value at declared t = None
 
--- the first value of the type of a name, if it has one
-abbrev pub type_again : Span → (Name → Bool) → Option SmvType → Option Fault
-type_again at declared None = None
-type_again at declared (Some t) = value_again at declared t
+-- the first duplicate value of the type of a name, if it has one
+abbrev pub duplicate_in_type : Span → (Name → Bool) → Option SmvType → Option Fault
+duplicate_in_type at declared None = None
+duplicate_in_type at declared (Some t) = duplicate_value at declared t
 
--- a name that an earlier one equals, else the first value of its type that may not stand there
-abbrev pub stated_again : (Name → Bool) → (Name → Bool) → Stated → Option Fault
-stated_again declared seen s = or_else (again seen s.at s.name) (type_again s.at declared s.type)
+-- a name that equals an earlier one, else the first duplicate value of its type
+abbrev pub duplicate_declared : (Name → Bool) → (Name → Bool) → DeclaredName → Option Fault
+duplicate_declared declared seen s = or_else (duplicate_name seen s.at s.name)
+    (duplicate_in_type s.at declared s.type)
 
--- the first of these names, behind those that were seen
-abbrev pub name_again : (Name → Bool) → (Name → Bool) → List Stated → Option Fault
-name_again declared seen [] = None
-name_again declared seen (s ∷ more) = or_else (stated_again declared seen s) (name_again declared (and_name seen s.name) more)
+-- the first duplicate among these names, given the earlier ones
+abbrev pub duplicate_among_names : (Name → Bool) → (Name → Bool) → List DeclaredName → Option Fault
+duplicate_among_names declared seen [] = None
+duplicate_among_names declared seen (s ∷ more) = or_else (duplicate_declared declared seen s)
+    (duplicate_among_names declared (and_name seen s.name) more)
 
--- the first name within a module
-abbrev pub again_within : List Stated → Option Fault
-again_within names = name_again (declares names) no_name names
+-- the first duplicate name within a module
+abbrev pub duplicate_within : List DeclaredName → Option Fault
+duplicate_within names = duplicate_among_names (declares names) no_name names
 
--- a module of which an earlier one has the name, else the first name that stands twice within it
-abbrev pub again_at : (Name → Bool) → Module → Option Fault
-again_at seen m = or_else (again seen m.at m.name) (again_within (stated m))
+-- a module whose name equals an earlier one, else the first duplicate name within it
+abbrev pub duplicate_at : (Name → Bool) → Module → Option Fault
+duplicate_at seen m = or_else (duplicate_name seen m.at m.name)
+    (duplicate_within (declared_names m))
 
--- the first of these modules, behind those that were seen
-abbrev pub module_again : (Name → Bool) → List Module → Option Fault
-module_again seen [] = None
-module_again seen (m ∷ more) = or_else (again_at seen m) (module_again (and_name seen m.name) more)
+-- the first duplicate among these modules, given the earlier ones
+abbrev pub duplicate_among_modules : (Name → Bool) → List Module → Option Fault
+duplicate_among_modules seen [] = None
+duplicate_among_modules seen (m ∷ more) = or_else (duplicate_at seen m)
+    (duplicate_among_modules (and_name seen m.name) more)
 
--- the first name that stands twice
+-- the first duplicate name of a program
 abbrev pub duplicate_fault : Program → Option Fault
-duplicate_fault program = module_again no_name program.modules
+duplicate_fault program = duplicate_among_modules no_name program.modules

@@ -12,16 +12,19 @@ use Rattle.smv_names.specs.Unknown.{unknown_name_fault}
 
 -- the program has more than 65,536 instances
 abbrev pub size_fault : Program → Option Fault
-size_fault program = if nat_lt 65536 (length (instances program)) then Some (fault.TooLarge None) else None
+size_fault program = if nat_lt 65536 (length (instances program)) then Some (fault.TooLarge None)
+    else None
 
--- the instances are too many, else a name is unknown
+-- too many instances, else the first unknown name
 abbrev pub instance_fault : Program → Option Fault
 instance_fault program = or_else (size_fault program) (unknown_name_fault program)
 
--- the faults of modules by their names and instances
+-- the first fault of modules, by their names and instances
 abbrev pub module_fault : Program → Option Fault
-module_fault program = or_else (unknown_module_fault program) (or_else (argument_fault program) (recursion_fault program))
+module_fault program = or_else (unknown_module_fault program)
+    (or_else (argument_fault program) (recursion_fault program))
 
 -- the first fault of the names of a program
 abbrev pub names_fault : Program → Option Fault
-names_fault program = or_else (duplicate_fault program) (or_else (module_fault program) (instance_fault program))
+names_fault program = or_else (duplicate_fault program)
+    (or_else (module_fault program) (instance_fault program))

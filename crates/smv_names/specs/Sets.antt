@@ -1,4 +1,4 @@
--- Sets of names and of numbers that were seen.
+-- Sets of the names and numbers that were visited.
 use Rattle.std.specs.Prelude.{Bool, false, ◌||◌, List, ℤ}
 use Rattle.std.specs.List.{fold}
 use Rattle.std.specs.Str.{bytes_eq}
@@ -9,7 +9,7 @@ use Rattle.std.specs.declared.hash.BuildHasherDefault.{BuildHasherDefault}
 use denote.Ref.{Bor}
 use Rattle.smv_meaning.specs.Value.{Name}
 
--- a set of names that stand elsewhere
+-- a set of borrowed names
 abbrev pub NameSet : Type 0
 NameSet = HashSet (Bor Name) (BuildHasherDefault FoldHasher)
 
@@ -17,15 +17,15 @@ NameSet = HashSet (Bor Name) (BuildHasherDefault FoldHasher)
 abbrev pub in_set : NameSet → Name → Bool
 in_set names name = contains_by (λ n. bytes_eq name n.now) names
 
--- no name
+-- the empty set of names
 abbrev pub no_name : Name → Bool
 no_name name = false
 
--- those names, and one more
+-- a set with one more name
 abbrev pub and_name : (Name → Bool) → Name → Name → Bool
 and_name seen name other = seen other || bytes_eq other name
 
--- those names, and these
+-- a set with more names
 abbrev pub and_names : (Name → Bool) → List Name → Name → Bool
 and_names = fold and_name
 
@@ -37,10 +37,10 @@ NumberSet = HashSet ℤ (BuildHasherDefault FoldHasher)
 abbrev pub has_number : NumberSet → ℤ → Bool
 has_number numbers n = contains_by (int_eq n) numbers
 
--- no number
+-- the empty set of numbers
 abbrev pub no_number : ℤ → Bool
 no_number n = false
 
--- those numbers, and one more
+-- a set with one more number
 abbrev pub and_number : (ℤ → Bool) → ℤ → ℤ → Bool
 and_number seen n other = seen other || int_eq other n

@@ -9,158 +9,139 @@ use Rattle.smv_ast.specs.declared.syntax.Expr.{Expr}
 use Rattle.smv_ast.specs.declared.syntax.SmvType.{SmvType}
 use Rattle.smv_ast.specs.declared.syntax.SmvType.TheVariants as type
 use Rattle.smv_ast.specs.declared.program.Declared.{Declared}
-use Rattle.smv_ast.specs.declared.program.Declared.TheVariants.{Plain, Instance}
-use Rattle.smv_ast.specs.declared.program.Assignment.{Assignment}
-use Rattle.smv_ast.specs.declared.program.Declaration.{Declaration}
-use Rattle.smv_ast.specs.declared.program.Definition.{Definition}
-use Rattle.smv_ast.specs.declared.program.Section.{Section}
-use Rattle.smv_ast.specs.declared.program.Section.TheVariants as section
+use Rattle.smv_ast.specs.declared.program.Declared.TheVariants.{Plain, Instance as Submodule}
 use Rattle.smv_ast.specs.declared.program.Module.{Module}
 use Rattle.smv_ast.specs.declared.program.Program.{Program}
 use Rattle.smv_meaning.specs.Value.{Name}
-use Rattle.smv_meaning.specs.Paths.{leads}
-use Rattle.smv_meaning.specs.Instances.{Place, module_named, what, instances, meant_at}
+use Rattle.smv_meaning.specs.Paths.{resolve}
+use Rattle.smv_meaning.specs.Instances.{Instance, module_named, lookup, instances, binding_at}
 use Rattle.smv_meaning.specs.Known.{IsKnown}
+use Rattle.smv_meaning.specs.Items.{Item, Declares, Assigns, exprs_of, items, program_items}
 use Rattle.smv_meaning.specs.Values.{is_symbol}
 use Rattle.smv_meaning.specs.Mentions.{paths_of}
-use Rattle.smv_meaning.specs.Runs.{or_else, first_some, path_text}
-use Rattle.smv_meaning.specs.Slots.{TellsStanding}
-use Rattle.smv_meaning.specs.Checking.{IsRight}
+use Rattle.smv_meaning.specs.Runs.{or_else, first_fault, path_text}
+use Rattle.smv_meaning.specs.Slots.{AreAliases}
+use Rattle.smv_meaning.specs.Checking.{IsTableOfProgram}
 use Rattle.smv_names.specs.Sets.{in_set}
-use Rattle.smv_names.specs.Rows.{is_of, AreRowsOf, TellsRows}
-use Rattle.smv_names.specs.declared.known.Knowledge.{Knowledge}
-use Rattle.smv_names.specs.declared.known.Sight.{Sight}
+use Rattle.smv_names.specs.Rows.{is_of, AreRowsOf, AreRowsByModule}
+use Rattle.smv_names.specs.declared.known.Resolver.{Resolver}
+use Rattle.smv_names.specs.declared.known.ModuleScope.{ModuleScope}
 
--- ---- which paths are known
+-- ---- known paths
 
 -- whether the module of a name declares a name
 abbrev pub declared_in : Program → Name → Name → Bool
-declared_in program called name = is_some (what (module_named program called) name)
+declared_in program called name = is_some (lookup (module_named program called) name)
 
 -- whether the module declares the first name of a path
 abbrev pub begins_in : Program → Name → List Name → Bool
 begins_in program called [] = true
 begins_in program called (name ∷ more) = declared_in program called name
 
--- whether a path leads to a declaration in an instance
-abbrev pub leads_in : Program → List Name → Place → Bool
-leads_in program path place = is_some (leads (meant_at program) place path)
+-- whether a path of an instance resolves to a declaration
+abbrev pub resolves_in : Program → List Name → Instance → Bool
+resolves_in program path instance = is_some (resolve (binding_at program) instance path)
 
--- whether a path leads to a declaration in an instance, if it is one of the module
-abbrev pub leads_if_of : Program → Name → List Name → Place → Bool
-leads_if_of program called path place = not (is_of called place) || leads_in program path place
+-- whether a path of an instance resolves to a declaration, if the instance is of the module
+abbrev pub resolves_if_of : Program → Name → List Name → Instance → Bool
+resolves_if_of program called path instance = not (is_of called instance)
+    || resolves_in program path instance
 
--- whether a path leads to a declaration in each instance of the module
-abbrev pub leads_in_each : Program → Name → List Name → Bool
-leads_in_each program called path = list_all (leads_if_of program called path) (instances program)
+-- whether a path resolves to a declaration in each instance of the module
+abbrev pub is_resolved_in_each : Program → Name → List Name → Bool
+is_resolved_in_each program called path = list_all (resolves_if_of program called path)
+    (instances program)
 
 -- whether a path is known in a module
-abbrev pub knows : Program → Name → List Name → Bool
-knows program called path = begins_in program called path && leads_in_each program called path
+abbrev pub is_known_path : Program → Name → List Name → Bool
+is_known_path program called path = begins_in program called path
+    && is_resolved_in_each program called path
 
--- whether a path is a single name that stands in some type
+-- whether a path is a single name that is a symbol of a type
 abbrev pub is_symbol_path : Program → List Name → Bool
 is_symbol_path program (name ∷ []) = is_symbol program name
 is_symbol_path program path = false
 
--- whether a path of a module stands for something
-abbrev pub has_meaning : Program → Name → List Name → Bool
-has_meaning program called path = knows program called path || is_symbol_path program path
+-- whether a path of a module is known or a symbol
+abbrev pub is_resolved : Program → Name → List Name → Bool
+is_resolved program called path = is_known_path program called path || is_symbol_path program path
 
--- the same in the words of what is known
-abbrev pub HasMeaning : Program → Name → List Name → Type 0
-HasMeaning program called path = IsKnown program called path ⊎ IsTrue (is_symbol_path program path)
+-- a path is known in a module or a symbol of the program
+abbrev pub Resolves : Program → Name → List Name → Type 0
+Resolves program called path = IsKnown program called path ⊎ IsTrue (is_symbol_path program path)
 
 -- ---- the rule
 
--- a path that stands for nothing
+-- the fault of an unknown path
 abbrev pub unknown_path : Program → Name → Path → Option Fault
-unknown_path program called path = if has_meaning program called path.names then None else Some (fault.UnknownName (Some path.at) (path_text path.names))
+unknown_path program called path = if is_resolved program called path.names then None else Some
+    (fault.UnknownName (Some path.at) (path_text path.names))
 
--- the first such path of an expression
+-- the first unknown path of an expression
 abbrev pub unknown_in : Program → Name → Expr → Option Fault
-unknown_in program called e = first_some (unknown_path program called) (paths_of e)
+unknown_in program called e = first_fault (unknown_path program called) (paths_of e)
 
--- a left side that the module does not declare
+-- the fault of a left side that the module does not declare
 abbrev pub unknown_left : Program → Name → Span → Name → Option Fault
-unknown_left program called at name = if declared_in program called name then None else Some (fault.UnknownName (Some at) name)
+unknown_left program called at name = if declared_in program called name then None else Some
+    (fault.UnknownName (Some at) name)
 
--- an assignment, its left side first
-abbrev pub unknown_assignment : Program → Name → Assignment → Option Fault
-unknown_assignment program called a = or_else (unknown_left program called a.at a.name) (unknown_in program called a.right)
+-- the fault of the left side of an item, if it has one
+abbrev pub unknown_target : Program → Name → Item → Option Fault
+unknown_target program called (Assigns left name right at) = unknown_left program called at name
+unknown_target program called item = None
 
--- the actuals of an instance
-abbrev pub unknown_declared : Program → Name → Declared → Option Fault
-unknown_declared program called (Plain t) = None
-unknown_declared program called (Instance inner actuals) = first_some (unknown_in program called) actuals
+-- the first unknown name of an item, a left side before the paths of its expressions
+abbrev pub unknown_name : Program → Name → Item → Option Fault
+unknown_name program called item = or_else (unknown_target program called item)
+    (first_fault (unknown_in program called) (exprs_of item))
 
--- a declaration
-abbrev pub unknown_declaration : Program → Name → Declaration → Option Fault
-unknown_declaration program called d = unknown_declared program called d.what
-
--- a definition
-abbrev pub unknown_definition : Program → Name → Definition → Option Fault
-unknown_definition program called d = unknown_in program called d.right
-
--- a section, item by item
-abbrev pub unknown_section : Program → Name → Section → Option Fault
-unknown_section program called (section.Vars declarations) = first_some (unknown_declaration program called) declarations
-unknown_section program called (section.Assigns assignments) = first_some (unknown_assignment program called) assignments
-unknown_section program called (section.Defines definitions) = first_some (unknown_definition program called) definitions
-unknown_section program called (section.Init e at) = unknown_in program called e
-unknown_section program called (section.Invar e at) = unknown_in program called e
-unknown_section program called (section.Trans e at) = unknown_in program called e
-unknown_section program called (section.InvarSpec e at) = unknown_in program called e
-
--- a module
+-- the first unknown name of a module
 abbrev pub unknown_within : Program → Module → Option Fault
-unknown_within program m = first_some (unknown_section program m.name) m.sections
+unknown_within program m = first_fault (unknown_name program m.name) (items m)
 
--- the first path or left side of the program that stands for nothing
+-- the first unknown path or left side of the program
 abbrev pub unknown_name_fault : Program → Option Fault
-unknown_name_fault program = first_some (unknown_within program) program.modules
+unknown_name_fault program = first_fault (unknown_within program) program.modules
 
--- ---- as it is held
+-- ---- the tables of the code
 
--- what is held of a program is right: the table of its instances, what names stand for, the instances of each module, and
--- the symbols
-pub record IsKnowledge (k : Knowledge) : Type 0 where
-  pub right : IsRight k.program.now k.tree.now
-  pub standing : TellsStanding k.tree.now k.standing.now
-  pub rows : TellsRows k.program.now k.tree.now k.rows.now
+-- the tables of a program are correct: its instance table, the aliases, the instances of each
+-- module, and the symbols
+pub record IsResolver (k : Resolver) : Type 0 where
+  pub right : IsTableOfProgram k.program.now k.table.now
+  pub aliases : AreAliases k.table.now k.aliases.now
+  pub rows : AreRowsByModule k.program.now k.table.now k.rows.now
   pub symbols : in_set k.symbols.now ≡ is_symbol k.program.now
 
--- the program at which a module is looked at
-abbrev pub seen_program : Sight → Program
-seen_program s = s.known.now.program.now
+-- the program of a module's scope
+abbrev pub scope_program : ModuleScope → Program
+scope_program s = s.known.now.program.now
 
--- what is held of the program is right, the set has the names of the module, and the numbers are those of its instances
-pub record IsSight (s : Sight) : Type 0 where
-  pub known : IsKnowledge s.known.now
-  pub declared : in_set s.declared.now ≡ declared_in (seen_program s) s.called.now
-  pub rows : AreRowsOf (seen_program s) s.known.now.tree.now s.called.now s.rows.now
+-- the tables of the program are correct, the set has the names of the module, and the rows are its
+-- instances
+pub record IsModuleScope (s : ModuleScope) : Type 0 where
+  pub known : IsResolver s.known.now
+  pub declared : in_set s.declared.now ≡ declared_in (scope_program s) s.called.now
+  pub rows : AreRowsOf (scope_program s) s.known.now.table.now s.called.now s.rows.now
 
--- ---- the symbols in a row
+-- ---- the list of all symbols
 
 -- the symbols of a type
 abbrev pub type_symbols : SmvType → List Name
 type_symbols (type.Symbols names) = names
 type_symbols t = []
 
--- those of what is declared
+-- the symbols of a declaration
 abbrev pub declared_symbols : Declared → List Name
 declared_symbols (Plain t) = type_symbols t
-declared_symbols (Instance called actuals) = []
+declared_symbols (Submodule called actuals) = []
 
--- those of a section
-abbrev pub section_symbols : Section → List Name
-section_symbols (section.Vars declarations) = flat_map (λ d. declared_symbols d.what) declarations
-section_symbols s = []
+-- the symbols of an item
+abbrev pub item_symbols : Item → List Name
+item_symbols (Declares name what at) = declared_symbols what
+item_symbols item = []
 
--- those of a module
-abbrev pub module_symbols : Module → List Name
-module_symbols m = flat_map section_symbols m.sections
-
--- those of a program
+-- the symbols of a program
 abbrev pub symbols : Program → List Name
-symbols program = flat_map module_symbols program.modules
+symbols program = flat_map item_symbols (program_items program)

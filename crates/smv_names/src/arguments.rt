@@ -1,45 +1,66 @@
-//! Instances of which the actuals and the formals of the module differ in number.
+//! Instances whose actuals and formals differ in number.
 
-ghost use Rattle.smv_meaning.specs.Faults.{TellsFirst};
+ghost use Rattle.std.specs.Prelude.{◌≡◌, IfOk};
+ghost use Rattle.smv_meaning.specs.Faults.{ReportsFirst};
 ghost use Rattle.smv_names.specs.Modules as spec;
 
-use crate::instances::{Judge, judge_module};
 use crate::numbers::module_named;
-use smv_ast::{Expr, Fault, Module, Program, Span, Text};
+use smv_ast::{Declared, Fault, Module, NoMemory, Program, Span, Text};
+use smv_meaning::items::{Item, items_of};
+use smv_meaning::rules::{ItemRule, check_items};
 use std::alloc::Global;
 use std::collections::HashMap;
 
-/// An instance has as many actuals as its module has formals.
+/// The rule that an instance has as many actuals as its module has formals.
 #[derive(Drop)]
 struct HasActuals<'p> {
     program: &'p Program,
     numbers: &'p HashMap<&'p str, usize>,
-    ghost tells: { spec.TellsNumbers program.now numbers.now },
+    ghost numbering: { spec.IsNumbering program.now numbers.now },
 }
 
-impl<'p> Judge for HasActuals<'p> {
+impl<'p> HasActuals<'p> {
+    fn fault(&self, alloc: Global, at: Span, what: &Declared) -> Result<Option<Fault>, NoMemory>
+        ensures { IfOk result (λ fault. fault
+            ≡ spec.miscounted_declared self.now.program.now at what.now) }
+    {
+        match what {
+            Declared::Plain(_) => Ok(None),
+            Declared::Instance { module, actuals } => {
+                match module_named(self.program, self.numbers, module.as_str()) {
+                    Some(owner) => {
+                        if actuals.len() == owner.formals.len() {
+                            return Ok(None);
+                        }
+                        Ok(Some(Fault::ArgumentCount {
+                            at: Some(at),
+                            name: module.try_clone(alloc)?,
+                        }))
+                    }
+                    None => Ok(None),
+                }
+            }
+        }
+    }
+}
+
+impl<'p> ItemRule<Fault> for HasActuals<'p> {
     ghost use Rattle.smv_names.specs.Modules.{miscounted_instance};
 
-    ghost judged = { λ me. miscounted_instance me.program.now };
+    ghost reports = { λ me. miscounted_instance me.program.now };
 
-    fn judge(&self, alloc: Global, at: Span, called: &Text, actuals: &[Expr]) -> Result<(), Fault> {
-        match module_named(self.program, self.numbers, called.as_str()) {
-            Some(owner) => {
-                if actuals.len() == owner.formals.len() {
-                    return Ok(());
-                }
-                Err(Fault::ArgumentCount {
-                    at: Some(at),
-                    name: called.try_clone(alloc)?,
-                })
+    fn judge(&self, alloc: Global, item: Item) -> Result<Option<Fault>, NoMemory> {
+        match item {
+            Item::Declaration(declaration) => {
+                self.fault(alloc, declaration.at, &declaration.what)
             }
-            None => Ok(()),
+            _ => Ok(None),
         }
     }
 }
 
 fn check_main(alloc: Global, owner: &Module) -> Result<(), Fault>
-    ensures { TellsFirst (spec.main_formals owner.now) result }
+    ensures { ReportsFirst (spec.main_formals owner.now) result }
 {
     if owner.name.as_str() == "main" && owner.formals.len() != 0 {
         return Err(Fault::ArgumentCount {
@@ -51,20 +72,21 @@ fn check_main(alloc: Global, owner: &Module) -> Result<(), Fault>
 }
 
 fn check_module(alloc: Global, rule: &HasActuals, owner: &Module) -> Result<(), Fault>
-    ensures { TellsFirst (spec.miscounted_within rule.now.program.now owner.now) result }
+    ensures { ReportsFirst (spec.miscounted_within rule.now.program.now owner.now) result }
 {
     check_main(alloc, owner)?;
-    judge_module(alloc, rule, owner)
+    let items = items_of(alloc, owner)?;
+    check_items(alloc, rule, items.as_slice())
 }
 
-/// The first wrong number of actuals, or formals of `main`.
+/// The first wrong number of actuals, or `main` with formals.
 pub fn check_arguments(
     alloc: Global,
     program: &Program,
     numbers: &HashMap<&str, usize>,
 ) -> Result<(), Fault>
-    requires { spec.TellsNumbers program.now numbers.now }
-    ensures { TellsFirst (spec.argument_fault program.now) result }
+    requires { spec.IsNumbering program.now numbers.now }
+    ensures { ReportsFirst (spec.argument_fault program.now) result }
 {
     let rule = HasActuals { program, numbers };
     for owner in program.modules.as_slice() {

@@ -1,21 +1,21 @@
-//! The first name that stands twice where it may stand once.
+//! The first duplicate name.
 
 ghost use Rattle.std.specs.Prelude.{◌≡◌, OnOk, IfOk, map, string_bytes};
 ghost use Rattle.std.specs.Fmt.{signed_decimal};
-ghost use Rattle.smv_meaning.specs.Faults.{TellsFirst};
+ghost use Rattle.smv_meaning.specs.Faults.{ReportsFirst};
 ghost use Rattle.smv_names.specs.Duplicates as spec;
 ghost use Rattle.smv_names.specs.Sets.{in_set, no_name, has_number, no_number};
 
-use crate::sets::{no_names, no_numbers, see_name, see_number};
-use crate::stated::{Stated, stated_of};
+use crate::declared_names::{DeclaredName, declared_names_of};
+use crate::sets::{insert_name, insert_number, no_names, no_numbers};
 use itoa::Buffer;
 use smv_ast::{Fault, Module, NoMemory, Program, SmvType, Span, Text};
 use std::alloc::Global;
 use std::collections::HashSet;
 
 /// Refuses a name that is in the set.
-fn tell_again(alloc: Global, seen: &HashSet<&str>, at: Span, name: &Text) -> Result<(), Fault>
-    ensures { TellsFirst (spec.again (in_set seen.now) at name.now) result }
+fn report_name(alloc: Global, seen: &HashSet<&str>, at: Span, name: &Text) -> Result<(), Fault>
+    ensures { ReportsFirst (spec.duplicate_name (in_set seen.now) at name.now) result }
 {
     if seen.contains(name.as_str()) {
         return Err(Fault::DuplicateName {
@@ -27,14 +27,15 @@ fn tell_again(alloc: Global, seen: &HashSet<&str>, at: Span, name: &Text) -> Res
 }
 
 /// Refuses a symbol that is in one of the sets.
-fn tell_symbol(
+fn report_symbol(
     alloc: Global,
     declared: &HashSet<&str>,
     seen: &HashSet<&str>,
     at: Span,
     name: &Text,
 ) -> Result<(), Fault>
-    ensures { TellsFirst (spec.again_symbol (in_set declared.now) (in_set seen.now) at name.now) result }
+    ensures { ReportsFirst (spec.duplicate_symbol (in_set declared.now) (in_set seen.now) at
+        name.now) result }
 {
     if seen.contains(name.as_str()) || declared.contains(name.as_str()) {
         return Err(Fault::DuplicateName {
@@ -52,12 +53,13 @@ fn check_symbols(
     at: Span,
     names: &[Text],
 ) -> Result<(), Fault>
-    ensures { TellsFirst (spec.symbol_again at (in_set declared.now) no_name names.now) result }
+    ensures { ReportsFirst (spec.duplicate_among_symbols at (in_set declared.now) no_name
+        names.now) result }
 {
     let mut seen = no_names(alloc);
     for name in names {
-        tell_symbol(alloc, declared, &seen, at, name)?;
-        see_name(&mut seen, name)?;
+        report_symbol(alloc, declared, &seen, at, name)?;
+        insert_name(&mut seen, name)?;
     }
     Ok(())
 }
@@ -71,8 +73,8 @@ fn number_text(alloc: Global, n: i64) -> Result<Text, NoMemory>
 }
 
 /// Refuses a number that is in the set.
-fn tell_number(alloc: Global, seen: &HashSet<i64>, at: Span, n: &i64) -> Result<(), Fault>
-    ensures { TellsFirst (spec.again_number (has_number seen.now) at n.now) result }
+fn report_number(alloc: Global, seen: &HashSet<i64>, at: Span, n: &i64) -> Result<(), Fault>
+    ensures { ReportsFirst (spec.duplicate_number (has_number seen.now) at n.now) result }
 {
     if seen.contains(n) {
         return Err(Fault::DuplicateName {
@@ -85,12 +87,12 @@ fn tell_number(alloc: Global, seen: &HashSet<i64>, at: Span, n: &i64) -> Result<
 
 /// The numbers of a type.
 fn check_numbers(alloc: Global, at: Span, numbers: &[i64]) -> Result<(), Fault>
-    ensures { TellsFirst (spec.number_again at no_number numbers.now) result }
+    ensures { ReportsFirst (spec.duplicate_among_numbers at no_number numbers.now) result }
 {
     let mut seen = no_numbers(alloc);
     for n in numbers {
-        tell_number(alloc, &seen, at, n)?;
-        see_number(&mut seen, *n)?;
+        report_number(alloc, &seen, at, n)?;
+        insert_number(&mut seen, *n)?;
     }
     Ok(())
 }
@@ -102,7 +104,8 @@ fn check_type(
     at: Span,
     type_: Option<&SmvType>,
 ) -> Result<(), Fault>
-    ensures { TellsFirst (spec.type_again at (in_set declared.now) (spec.seen_type type_.entry)) result }
+    ensures { ReportsFirst (spec.duplicate_in_type at (in_set declared.now)
+        (spec.type_view type_.entry)) result }
 {
     match type_ {
         Some(SmvType::Numbers(numbers)) => check_numbers(alloc, at, numbers.as_slice()),
@@ -112,70 +115,73 @@ fn check_type(
 }
 
 /// A name, and then the values of its type.
-fn check_stated(
+fn check_declared_name(
     alloc: Global,
     declared: &HashSet<&str>,
     seen: &HashSet<&str>,
-    one: Stated,
+    one: DeclaredName,
 ) -> Result<(), Fault>
-    ensures { TellsFirst (spec.stated_again (in_set declared.now) (in_set seen.now) (spec.stated_seen one.entry)) result }
+    ensures { ReportsFirst (spec.duplicate_declared (in_set declared.now) (in_set seen.now)
+        (spec.declared_name_view one.entry)) result }
 {
-    tell_again(alloc, seen, one.at, one.name)?;
+    report_name(alloc, seen, one.at, one.name)?;
     check_type(alloc, declared, one.at, one.type_)
 }
 
-/// The names of a module, of which all are these.
-fn check_stated_names(
+/// The names of a module, given the set of all of them.
+fn check_declared_names(
     alloc: Global,
     declared: &HashSet<&str>,
-    names: &[Stated],
+    names: &[DeclaredName],
 ) -> Result<(), Fault>
-    ensures { TellsFirst (spec.name_again (in_set declared.now) no_name (map spec.stated_seen names.now)) result }
+    ensures { ReportsFirst (spec.duplicate_among_names (in_set declared.now) no_name
+        (map spec.declared_name_view names.now)) result }
 {
     let mut seen = no_names(alloc);
     for one in names {
-        check_stated(alloc, declared, &seen, *one)?;
-        see_name(&mut seen, one.name)?;
+        check_declared_name(alloc, declared, &seen, *one)?;
+        insert_name(&mut seen, one.name)?;
     }
     Ok(())
 }
 
 /// The set of these names.
-fn declared_of<'a>(alloc: Global, names: &[Stated<'a>]) -> Result<HashSet<&'a str>, NoMemory>
-    ensures { IfOk result (λ declared. in_set declared ≡ spec.declares (map spec.stated_seen names.now)) }
+fn declared_of<'a>(alloc: Global, names: &[DeclaredName<'a>]) -> Result<HashSet<&'a str>, NoMemory>
+    ensures { IfOk result (λ declared. in_set declared
+        ≡ spec.declares (map spec.declared_name_view names.now)) }
 {
     let mut declared = no_names(alloc);
     for one in names {
-        see_name(&mut declared, one.name)?;
+        insert_name(&mut declared, one.name)?;
     }
     Ok(declared)
 }
 
-/// The names of a module.
+/// The names that a module declares.
 fn check_within(alloc: Global, owner: &Module) -> Result<(), Fault>
-    ensures { TellsFirst (spec.again_within (spec.stated owner.now)) result }
+    ensures { ReportsFirst (spec.duplicate_within (spec.declared_names owner.now)) result }
 {
-    let names = stated_of(alloc, owner)?;
+    let names = declared_names_of(alloc, owner)?;
     let declared = declared_of(alloc, names.as_slice())?;
-    check_stated_names(alloc, &declared, names.as_slice())
+    check_declared_names(alloc, &declared, names.as_slice())
 }
 
-/// A module, and then the names within it.
+/// A module's own name, then the names that it declares.
 fn check_module(alloc: Global, seen: &HashSet<&str>, owner: &Module) -> Result<(), Fault>
-    ensures { TellsFirst (spec.again_at (in_set seen.now) owner.now) result }
+    ensures { ReportsFirst (spec.duplicate_at (in_set seen.now) owner.now) result }
 {
-    tell_again(alloc, seen, owner.at, &owner.name)?;
+    report_name(alloc, seen, owner.at, &owner.name)?;
     check_within(alloc, owner)
 }
 
-/// The first name that stands twice.
+/// The first duplicate name of a program.
 pub fn check_duplicates(alloc: Global, program: &Program) -> Result<(), Fault>
-    ensures { TellsFirst (spec.duplicate_fault program.now) result }
+    ensures { ReportsFirst (spec.duplicate_fault program.now) result }
 {
     let mut seen = no_names(alloc);
     for owner in program.modules.as_slice() {
         check_module(alloc, &seen, owner)?;
-        see_name(&mut seen, &owner.name)?;
+        insert_name(&mut seen, &owner.name)?;
     }
     Ok(())
 }

@@ -1,41 +1,41 @@
-//! Which paths are known in a module.
+//! The paths that are known in a module.
 
 ghost use Rattle.std.specs.Prelude.{◌≡◌, ◌↔◌, ◌<◌, ◌||◌, IfOk, IsTrue, length, map};
-ghost use Rattle.smv_meaning.specs.Entries.{all_seen};
-ghost use Rattle.smv_meaning.specs.Scopes.{scope_seen, scopes_of, TellsModules};
+ghost use Rattle.smv_meaning.specs.Entries.{entries_view};
+ghost use Rattle.smv_meaning.specs.Scopes.{scope_view, scopes_of, IsModuleIndex};
 ghost use Rattle.smv_meaning.specs.Values.{is_symbol};
-ghost use Rattle.smv_meaning.specs.Checking.{stands};
+ghost use Rattle.smv_meaning.specs.Checking.{instance_at};
 ghost use Rattle.smv_names.specs.Sets.{in_set, no_name, and_names};
 ghost use Rattle.smv_names.specs.Unknown as spec;
 
 use crate::rows::RowsByModule;
-use crate::sets::{no_names, see_name};
+use crate::sets::{insert_name, no_names};
 use smv_ast::{NoMemory, Program, Text};
+use smv_meaning::aliases::resolve;
 use smv_meaning::entries::Entry;
 use smv_meaning::scope::{Scope, entries_found, names_in};
-use smv_meaning::standing::leads;
-use smv_meaning::tree::Tree;
+use smv_meaning::table::InstanceTable;
 use std::alloc::Global;
 use std::collections::{HashMap, HashSet};
 
-/// What is held of a program to tell which paths its modules know.
+/// The tables of a program by which paths are resolved.
 #[derive(Drop)]
-pub struct Knowledge<'p> {
+pub struct Resolver<'p> {
     pub program: &'p Program,
-    /// The instances of the program.
-    pub tree: &'p Tree<'p, 'p>,
-    /// Which instances names stand for.
-    pub standing: &'p [Option<usize>],
+    /// The instance table of the program.
+    pub table: &'p InstanceTable<'p, 'p>,
+    /// The instance that each slot is an alias of.
+    pub aliases: &'p [Option<usize>],
     /// The instances of each module.
     pub rows: &'p RowsByModule<'p>,
-    /// The words of all enumerations.
+    /// The symbols of all enumerations.
     pub symbols: &'p HashSet<&'p str>,
 }
 
-/// A module, with what is held of the program and of the module.
+/// A module, with the tables of its program.
 #[derive(Drop)]
-pub struct Sight<'p> {
-    pub known: &'p Knowledge<'p>,
+pub struct ModuleScope<'p> {
+    pub known: &'p Resolver<'p>,
     /// The name of the module.
     pub called: &'p Text,
     /// The names that the module declares.
@@ -44,18 +44,19 @@ pub struct Sight<'p> {
     pub rows: &'p [usize],
 }
 
-/// The names of these entries as a set.
+/// The set of the names of these entries.
 fn names_of<'a>(alloc: Global, entries: &[Entry<'a>]) -> Result<HashSet<&'a str>, NoMemory>
-    ensures { IfOk result (λ names. in_set names ≡ and_names no_name (map (λ e. e.name) (all_seen entries.now))) }
+    ensures { IfOk result (λ names. in_set names
+        ≡ and_names no_name (map (λ e. e.name) (entries_view entries.now))) }
 {
     let mut names = no_names(alloc);
     for entry in entries {
-        see_name(&mut names, entry.name)?;
+        insert_name(&mut names, entry.name)?;
     }
     Ok(names)
 }
 
-/// The names that the module of a name declares, as a set.
+/// The set of the names that the module of this name declares.
 pub fn declared_in<'a>(
     alloc: Global,
     program: &Program,
@@ -63,31 +64,33 @@ pub fn declared_in<'a>(
     numbers: &HashMap<&'a str, usize>,
     called: &str,
 ) -> Result<HashSet<&'a str>, NoMemory>
-    requires scopes { map scope_seen scopes.now ≡ scopes_of program.now }
-    requires numbers { TellsModules scopes.now numbers.now }
+    requires scopes { map scope_view scopes.now ≡ scopes_of program.now }
+    requires numbers { IsModuleIndex scopes.now numbers.now }
     ensures { IfOk result (λ names. in_set names ≡ spec.declared_in program.now called.now) }
 {
     let names = names_of(alloc, entries_found(names_in(scopes, numbers, called)))?;
     Ok(names)
 }
 
-/// Whether a path leads to a declaration in an instance.
-fn leads_at(known: &Knowledge, row: usize, path: &[Text]) -> bool
-    requires known { spec.IsKnowledge known.now }
-    requires row { row < length known.now.tree.now.rows }
-    ensures { result ≡ spec.leads_in known.now.program.now path.now (stands known.now.tree.now row) }
+/// Whether a path of an instance resolves to a declaration.
+fn is_resolved_in_row(known: &Resolver, row: usize, path: &[Text]) -> bool
+    requires known { spec.IsResolver known.now }
+    requires row { row < length known.now.table.now.rows }
+    ensures { result ≡ spec.resolves_in known.now.program.now path.now
+        (instance_at known.now.table.now row) }
 {
-    let slot = leads(known.tree, known.standing, row, path);
+    let slot = resolve(known.table, known.aliases, row, path);
     slot.is_some()
 }
 
-/// Whether a path leads to a declaration in each instance of the module.
-fn leads_in_each(sight: &Sight, path: &[Text]) -> bool
-    requires { spec.IsSight sight.now }
-    ensures { result ≡ spec.leads_in_each (spec.seen_program sight.now) sight.now.called.now path.now }
+/// Whether a path resolves to a declaration in each instance of the module.
+fn is_resolved_in_each(module_scope: &ModuleScope, path: &[Text]) -> bool
+    requires { spec.IsModuleScope module_scope.now }
+    ensures { result ≡ spec.is_resolved_in_each (spec.scope_program module_scope.now)
+        module_scope.now.called.now path.now }
 {
-    for row in sight.rows {
-        if !leads_at(sight.known, *row, path) {
+    for row in module_scope.rows {
+        if !is_resolved_in_row(module_scope.known, *row, path) {
             return false;
         }
     }
@@ -95,34 +98,39 @@ fn leads_in_each(sight: &Sight, path: &[Text]) -> bool
 }
 
 /// Whether a single name is declared or a symbol.
-fn names_something(sight: &Sight, name: &Text) -> bool
-    requires { spec.IsSight sight.now }
-    ensures { result ≡ (in_set sight.now.declared.now name.now || is_symbol (spec.seen_program sight.now) name.now) }
+fn is_declared_or_symbol(module_scope: &ModuleScope, name: &Text) -> bool
+    requires { spec.IsModuleScope module_scope.now }
+    ensures { result ≡ (in_set module_scope.now.declared.now name.now
+        || is_symbol (spec.scope_program module_scope.now) name.now) }
 {
-    sight.declared.contains(name.as_str()) || sight.known.symbols.contains(name.as_str())
+    module_scope.declared.contains(name.as_str())
+        || module_scope.known.symbols.contains(name.as_str())
 }
 
-fn has_meaning(sight: &Sight, path: &[Text]) -> bool
-    requires { spec.IsSight sight.now }
-    ensures { result ≡ spec.has_meaning (spec.seen_program sight.now) sight.now.called.now path.now }
+fn is_resolved(module_scope: &ModuleScope, path: &[Text]) -> bool
+    requires { spec.IsModuleScope module_scope.now }
+    ensures { result ≡ spec.is_resolved (spec.scope_program module_scope.now)
+        module_scope.now.called.now path.now }
 {
     match path {
-        [] => leads_in_each(sight, path),
-        [name] => names_something(sight, name),
+        [] => is_resolved_in_each(module_scope, path),
+        [name] => is_declared_or_symbol(module_scope, name),
         [first, ..] => {
-            let begins = sight.declared.contains(first.as_str());
-            begins && leads_in_each(sight, path)
+            let begins = module_scope.declared.contains(first.as_str());
+            begins && is_resolved_in_each(module_scope, path)
         }
     }
 }
 
-/// Whether a path of the module stands for something: it is known there, or it is a symbol. A single
-/// name that is declared there is known without a look at the instances.
-pub fn is_known(sight: &Sight, path: &[Text]) -> bool
-    requires { spec.IsSight sight.now }
-    ensures exact { result ≡ spec.has_meaning (spec.seen_program sight.now) sight.now.called.now path.now }
-    ensures law { IsTrue result ↔ spec.HasMeaning (spec.seen_program sight.now) sight.now.called.now path.now }
+/// Whether a path of the module is known there, or a symbol. A single name that the module declares
+/// is known in each of its instances.
+pub fn is_known(module_scope: &ModuleScope, path: &[Text]) -> bool
+    requires { spec.IsModuleScope module_scope.now }
+    ensures exact { result ≡ spec.is_resolved (spec.scope_program module_scope.now)
+        module_scope.now.called.now path.now }
+    ensures law { IsTrue result
+        ↔ spec.Resolves (spec.scope_program module_scope.now) module_scope.now.called.now path.now }
 {
-    let known = has_meaning(sight, path);
+    let known = is_resolved(module_scope, path);
     known
 }

@@ -1,17 +1,16 @@
-//! The first two passes of the static checks: names that stand twice, modules that are missing,
-//! called wrongly or lead back to themselves, too many instances, and names that stand for nothing.
+//! The first two passes of the static checks: duplicate names, unknown modules, numbers of actuals,
+//! recursive modules, too many instances, and unknown names.
 #![tactic(auto)]
 
 mod arguments;
 mod check;
+mod declared_names;
 mod duplicates;
-mod instances;
 pub mod known;
 mod numbers;
 mod recursion;
 pub mod rows;
 mod sets;
-mod stated;
 pub mod symbols;
 pub mod unknown;
 mod unknown_modules;

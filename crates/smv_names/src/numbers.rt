@@ -2,7 +2,7 @@
 
 ghost use Rattle.std.specs.Prelude.{◌≡◌, IfOk};
 ghost use Rattle.std.specs.Option.{option_copied};
-ghost use Rattle.smv_names.specs.Modules.{TellsNumbers, the_module, number_in};
+ghost use Rattle.smv_names.specs.Modules.{IsNumbering, the_module, number_in};
 
 use smv_ast::{Module, NoMemory, Program};
 use sqlite_items::at;
@@ -11,7 +11,7 @@ use std::collections::HashMap;
 
 /// The number of the first module of each name.
 pub fn numbers_of(alloc: Global, program: &Program) -> Result<HashMap<&str, usize>, NoMemory>
-    ensures { IfOk result (λ numbers. TellsNumbers program.now numbers) }
+    ensures { IfOk result (λ numbers. IsNumbering program.now numbers) }
 {
     let mut numbers = HashMap::new(alloc);
     let mut number = 0;
@@ -31,7 +31,7 @@ pub fn module_named<'p>(
     numbers: &HashMap<&str, usize>,
     name: &str,
 ) -> Option<&'p Module>
-    requires { TellsNumbers program.now numbers.now }
+    requires { IsNumbering program.now numbers.now }
     ensures { option_copied result ≡ the_module program.now name.now }
 {
     match numbers.get(name) {

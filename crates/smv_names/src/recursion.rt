@@ -1,23 +1,25 @@
-//! Modules of which the instances lead back to them.
+//! Recursive modules: modules on a cycle of instance declarations.
 
 ghost use Rattle.std.specs.Prelude.{◌≡◌, ◌++◌, IfOk, OnOk};
-ghost use Rattle.smv_meaning.specs.Faults.{TellsFirst};
-ghost use Rattle.smv_names.specs.Modules.{TellsNumbers};
+ghost use Rattle.smv_meaning.specs.Faults.{ReportsFirst};
+ghost use Rattle.smv_meaning.specs.Items.{item_view};
+ghost use Rattle.smv_names.specs.Modules.{IsNumbering};
 ghost use Rattle.smv_names.specs.Recursion as spec;
 
-use smv_ast::{Declared, Fault, List, Module, NoMemory, Program, Section};
-use smv_loops::Loops;
+use graph::Search;
+use smv_ast::{Declared, Fault, List, Module, NoMemory, Program};
+use smv_meaning::items::{Item, items_of};
 use std::alloc::Global;
 use std::collections::HashMap;
 
-/// Adds the number of the module of an instance, if what is declared is one.
+/// Adds the number of the module of an instance, if the declaration is one.
 fn push_declared(
     calls: &mut List<usize>,
     numbers: &HashMap<&str, usize>,
     program: &Program,
     what: &Declared,
 ) -> Result<(), NoMemory>
-    requires { TellsNumbers program.now numbers.now }
+    requires { IsNumbering program.now numbers.now }
     ensures { OnOk result (calls.new ≡ calls.old ++ spec.called_declared program.now what.now) }
 {
     match what {
@@ -32,48 +34,49 @@ fn push_declared(
     }
 }
 
-fn push_section(
+fn push_item(
     calls: &mut List<usize>,
     numbers: &HashMap<&str, usize>,
     program: &Program,
-    section: &Section,
+    item: Item,
 ) -> Result<(), NoMemory>
-    requires { TellsNumbers program.now numbers.now }
-    ensures { OnOk result (calls.new ≡ calls.old ++ spec.called_section program.now section.now) }
+    requires { IsNumbering program.now numbers.now }
+    ensures { OnOk result (calls.new
+        ≡ calls.old ++ spec.called_by program.now (item_view item.entry)) }
 {
-    let Section::Vars(declarations) = section else {
-        return Ok(());
-    };
-    for declaration in declarations.as_slice() {
-        push_declared(calls, numbers, program, &declaration.what)?;
+    match item {
+        Item::Declaration(declaration) => {
+            push_declared(calls, numbers, program, &declaration.what)
+        }
+        _ => Ok(()),
     }
-    Ok(())
 }
 
-/// The numbers of the modules of which a module declares instances.
+/// The numbers of the modules whose instances a module declares.
 fn calls_of(
     alloc: Global,
     numbers: &HashMap<&str, usize>,
     program: &Program,
     owner: &Module,
 ) -> Result<List<usize>, NoMemory>
-    requires { TellsNumbers program.now numbers.now }
+    requires { IsNumbering program.now numbers.now }
     ensures { IfOk result (λ calls. calls ≡ spec.called_within program.now owner.now) }
 {
+    let items = items_of(alloc, owner)?;
     let mut calls = List::new(alloc);
-    for section in owner.sections.as_slice() {
-        push_section(&mut calls, numbers, program, section)?;
+    for item in items.as_slice() {
+        push_item(&mut calls, numbers, program, *item)?;
     }
     Ok(calls)
 }
 
-/// Of each module the modules of its instances.
+/// The graph of modules: the successors of a module are the modules of its instances.
 fn graph_of(
     alloc: Global,
     numbers: &HashMap<&str, usize>,
     program: &Program,
 ) -> Result<List<List<usize>>, NoMemory>
-    requires { TellsNumbers program.now numbers.now }
+    requires { IsNumbering program.now numbers.now }
     ensures { IfOk result (λ graph. graph ≡ spec.graph program.now) }
 {
     let mut graph = List::new(alloc);
@@ -83,11 +86,11 @@ fn graph_of(
     Ok(graph)
 }
 
-/// Refuses a module of which the instances lead back to it.
-fn check_module(alloc: Global, loops: &Loops, k: usize, owner: &Module) -> Result<(), Fault>
-    ensures { TellsFirst (spec.recursive_at loops.now.graph.now k owner.now) result }
+/// Refuses a module that is on a cycle.
+fn check_module(alloc: Global, search: &Search, k: usize, owner: &Module) -> Result<(), Fault>
+    ensures { ReportsFirst (spec.recursive_at search.now.graph.now k owner.now) result }
 {
-    if loops.leads_back(alloc, k)? {
+    if search.is_on_cycle(alloc, k)? {
         return Err(Fault::RecursiveModule {
             at: Some(owner.at),
             name: owner.name.try_clone(alloc)?,
@@ -97,25 +100,25 @@ fn check_module(alloc: Global, loops: &Loops, k: usize, owner: &Module) -> Resul
 }
 
 fn check_graph(alloc: Global, graph: &[List<usize>], modules: &[Module]) -> Result<(), Fault>
-    ensures { TellsFirst (spec.recursive_from graph.now 0 modules.now) result }
+    ensures { ReportsFirst (spec.recursive_from graph.now 0 modules.now) result }
 {
-    let loops = Loops::of_graph(alloc, graph)?;
+    let search = Search::of_graph(alloc, graph)?;
     let mut k = 0;
     for owner in modules {
-        check_module(alloc, &loops, k, owner)?;
+        check_module(alloc, &search, k, owner)?;
         k += 1;
     }
     Ok(())
 }
 
-/// The first module of which the instances lead back to it.
+/// The first module that is on a cycle.
 pub fn check_recursion(
     alloc: Global,
     program: &Program,
     numbers: &HashMap<&str, usize>,
 ) -> Result<(), Fault>
-    requires { TellsNumbers program.now numbers.now }
-    ensures { TellsFirst (spec.recursion_fault program.now) result }
+    requires { IsNumbering program.now numbers.now }
+    ensures { ReportsFirst (spec.recursion_fault program.now) result }
 {
     let graph = graph_of(alloc, numbers, program)?;
     check_graph(alloc, graph.as_slice(), program.modules.as_slice())

@@ -1,13 +1,13 @@
-//! The instances of a program, module by module.
+//! The instances of a program, grouped by module.
 
 ghost use Rattle.std.specs.Prelude.{◌≡◌, ◌++◌, ℕ, List, [], ◌∷◌, IfOk, OnOk, if◌then◌else◌};
 ghost use Rattle.std.specs.Str.{bytes_eq};
-ghost use Rattle.smv_meaning.specs.Checking.{IsRight};
+ghost use Rattle.smv_meaning.specs.Checking.{IsTableOfProgram};
 ghost use Rattle.smv_names.specs.Rows as spec;
 
 use smv_ast::{NoMemory, Program};
 use smv_meaning::order::order_of;
-use smv_meaning::tree::{Link, Tree};
+use smv_meaning::table::{InstanceTable, Link};
 use std::alloc::Global;
 use std::collections::HashMap;
 
@@ -17,7 +17,7 @@ pub struct RowsByModule<'p> {
     by_name: HashMap<&'p str, Vec<usize>>,
 }
 
-/// The name of the module of an instance of this link.
+/// The name of the module of an instance with this link.
 fn called_of<'p>(link: Option<Link<'p>>) -> &'p str
     ensures { result.now ≡ spec.called_by_link link.entry }
 {
@@ -27,14 +27,14 @@ fn called_of<'p>(link: Option<Link<'p>>) -> &'p str
     }
 }
 
-/// Puts an instance behind those of its module.
+/// Appends an instance to those of its module.
 fn put<'p>(
     by_name: &mut HashMap<&'p str, Vec<usize>>,
     called: &'p str,
     row: usize,
 ) -> Result<(), NoMemory>
-    ensures { OnOk result ((name : List ℕ) → spec.rows_held by_name.new name
-        ≡ spec.rows_held by_name.old name ++ (if bytes_eq name called.now then row ∷ [] else [])) }
+    ensures { OnOk result ((name : List ℕ) → spec.rows_under by_name.new name
+        ≡ spec.rows_under by_name.old name ++ (if bytes_eq name called.now then row ∷ [] else [])) }
 {
     by_name.entry(called)?.or_default().push(row)?;
     Ok(())
@@ -47,17 +47,17 @@ fn no_rows<'r>() -> &'r [usize]
 }
 
 impl<'p> RowsByModule<'p> {
-    /// The instances of a program with this table, by their modules.
+    /// The instances of a program, grouped by module.
     pub fn of_program<'s>(
         alloc: Global,
         program: &Program,
-        tree: &Tree<'s, 'p>,
+        table: &InstanceTable<'s, 'p>,
     ) -> Result<RowsByModule<'p>, NoMemory>
-        requires { IsRight program.now tree.now }
-        ensures { IfOk result (λ rows. spec.TellsRows program.now tree.now rows) }
+        requires { IsTableOfProgram program.now table.now }
+        ensures { IfOk result (λ rows. spec.AreRowsByModule program.now table.now rows) }
     {
-        let order = order_of(alloc, program, tree)?;
-        let instances = tree.rows.as_slice();
+        let order = order_of(alloc, program, table)?;
+        let instances = table.rows.as_slice();
         let mut by_name = HashMap::new(alloc);
         for row in order.as_slice() {
             put(&mut by_name, called_of(instances[*row].link), *row)?;

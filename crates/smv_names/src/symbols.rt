@@ -1,66 +1,58 @@
-//! The symbols of a program as a set.
+//! The set of the symbols of a program.
 
 ghost use Rattle.std.specs.Prelude.{◌≡◌, IfOk, OnOk};
+ghost use Rattle.smv_meaning.specs.Items.{item_view};
 ghost use Rattle.smv_meaning.specs.Values.{is_symbol};
 ghost use Rattle.smv_names.specs.Sets.{in_set, no_name, and_names};
 ghost use Rattle.smv_names.specs.Unknown as spec;
 
-use crate::sets::{no_names, see_name};
-use smv_ast::{Declared, Module, NoMemory, Program, Section, SmvType};
+use crate::sets::{insert_name, no_names};
+use smv_ast::{Declared, NoMemory, Program, SmvType};
+use smv_meaning::items::{Item, program_items};
 use std::alloc::Global;
 use std::collections::HashSet;
 
-fn see_type<'a>(names: &mut HashSet<&'a str>, type_: &'a SmvType) -> Result<(), NoMemory>
-    ensures { OnOk result (in_set names.new ≡ and_names (in_set names.old) (spec.type_symbols type_.now)) }
+fn insert_type<'a>(names: &mut HashSet<&'a str>, type_: &'a SmvType) -> Result<(), NoMemory>
+    ensures { OnOk result (in_set names.new
+        ≡ and_names (in_set names.old) (spec.type_symbols type_.now)) }
 {
     let SmvType::Symbols(symbols) = type_ else {
         return Ok(());
     };
     for symbol in symbols.as_slice() {
-        see_name(names, symbol)?;
+        insert_name(names, symbol)?;
     }
     Ok(())
 }
 
-fn see_declared<'a>(names: &mut HashSet<&'a str>, what: &'a Declared) -> Result<(), NoMemory>
-    ensures { OnOk result (in_set names.new ≡ and_names (in_set names.old) (spec.declared_symbols what.now)) }
+fn insert_declared<'a>(names: &mut HashSet<&'a str>, what: &'a Declared) -> Result<(), NoMemory>
+    ensures { OnOk result (in_set names.new
+        ≡ and_names (in_set names.old) (spec.declared_symbols what.now)) }
 {
     match what {
-        Declared::Plain(type_) => see_type(names, type_),
+        Declared::Plain(type_) => insert_type(names, type_),
         Declared::Instance { .. } => Ok(()),
     }
 }
 
-#[tactic(auto, using(crate::proofs::SetLemmas::and_names_append))]
-fn see_section<'a>(names: &mut HashSet<&'a str>, section: &'a Section) -> Result<(), NoMemory>
-    ensures { OnOk result (in_set names.new ≡ and_names (in_set names.old) (spec.section_symbols section.now)) }
+fn insert_item<'a>(names: &mut HashSet<&'a str>, item: Item<'a>) -> Result<(), NoMemory>
+    ensures { OnOk result (in_set names.new
+        ≡ and_names (in_set names.old) (spec.item_symbols (item_view item.entry))) }
 {
-    let Section::Vars(declarations) = section else {
-        return Ok(());
-    };
-    for declaration in declarations.as_slice() {
-        see_declared(names, &declaration.what)?;
+    match item {
+        Item::Declaration(declaration) => insert_declared(names, &declaration.what),
+        _ => Ok(()),
     }
-    Ok(())
-}
-
-#[tactic(auto, using(crate::proofs::SetLemmas::and_names_append))]
-fn see_module<'a>(names: &mut HashSet<&'a str>, owner: &'a Module) -> Result<(), NoMemory>
-    ensures { OnOk result (in_set names.new ≡ and_names (in_set names.old) (spec.module_symbols owner.now)) }
-{
-    for section in owner.sections.as_slice() {
-        see_section(names, section)?;
-    }
-    Ok(())
 }
 
 #[tactic(auto, using(crate::proofs::SetLemmas::and_names_append))]
 fn all_symbols<'a>(alloc: Global, program: &'a Program) -> Result<HashSet<&'a str>, NoMemory>
     ensures { IfOk result (λ names. in_set names ≡ and_names no_name (spec.symbols program.now)) }
 {
+    let items = program_items(alloc, program)?;
     let mut names = no_names(alloc);
-    for owner in program.modules.as_slice() {
-        see_module(&mut names, owner)?;
+    for item in items.as_slice() {
+        insert_item(&mut names, *item)?;
     }
     Ok(names)
 }

@@ -7,7 +7,7 @@ use smv_ast::{
 use std::alloc::Global;
 use std::test::Fail;
 
-fn place(at: u32) -> Span {
+fn span(at: u32) -> Span {
     Span { file: 0, at }
 }
 
@@ -19,7 +19,7 @@ fn module(alloc: Global, name: &str, declarations: List<Declaration>) -> Result<
         name: Text::from_str(alloc, name)?,
         formals: List::new(alloc),
         sections,
-        at: place(0),
+        at: span(0),
     })
 }
 
@@ -27,7 +27,7 @@ fn truth(alloc: Global, name: &str, at: u32) -> Result<Declaration, NoMemory> {
     Ok(Declaration {
         name: Text::from_str(alloc, name)?,
         what: Declared::Plain(SmvType::Boolean),
-        at: place(at),
+        at: span(at),
     })
 }
 
@@ -46,15 +46,15 @@ fn is_duplicate(answer: Result<(), Fault>, at: Span, name: &str) -> bool {
     match answer {
         Err(
             Fault::DuplicateName {
-                at: Some(told),
+                at: Some(reported),
                 name: found,
             },
-        ) => told == at && found.is(name),
+        ) => reported == at && found.is(name),
         _ => false,
     }
 }
 
-// Whether the answer is that there is no `main`.
+// Whether the answer is that `main` is missing.
 fn is_missing_main(answer: Result<(), Fault>) -> bool {
     match answer {
         Err(Fault::UnknownModule { at: None, name }) => name.is("main"),
@@ -79,7 +79,7 @@ fn two_of(alloc: Global, called: &str) -> Result<List<Declaration>, NoMemory> {
                 module: Text::from_str(alloc, called)?,
                 actuals: List::new(alloc),
             },
-            at: place(0),
+            at: span(0),
         })?;
     }
     Ok(declarations)
@@ -105,7 +105,7 @@ fn doubling(alloc: Global) -> Result<Program, NoMemory> {
 fn second_declaration(rt: HostRuntime) -> Result<(), Fail> {
     let alloc = rt.alloc();
     let program = twice(alloc)?;
-    assert!(rt; is_duplicate(check_names(alloc, &program), place(28), "x"));
+    assert!(rt; is_duplicate(check_names(alloc, &program), span(28), "x"));
     Ok(())
 }
 

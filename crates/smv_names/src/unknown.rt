@@ -1,21 +1,18 @@
-//! Paths and left sides that stand for nothing.
+//! Unknown paths and left sides.
 
 ghost use Rattle.std.specs.Prelude.{◌≡◌, IfOk};
-ghost use Rattle.smv_meaning.specs.Faults.{TellsFirst};
+ghost use Rattle.smv_meaning.specs.Items.{item_view, items_view};
 ghost use Rattle.smv_meaning.specs.Mentions.{pointed};
-ghost use Rattle.smv_meaning.specs.Runs.{first_some, path_text as joined_names};
-ghost use Rattle.smv_names.specs.Sets.{in_set};
+ghost use Rattle.smv_meaning.specs.Runs.{first_fault, path_text as joined_names};
 ghost use Rattle.smv_names.specs.Unknown as spec;
 
-use crate::known::{Sight, is_known};
-use smv_ast::{
-    Assignment, Declaration, Declared, Definition, Expr, Fault, NoMemory, Path, Section, Span,
-    Text, print_joined,
-};
+use crate::known::{ModuleScope, is_known};
+use smv_ast::{Expr, Fault, NoMemory, Path, Span, Text, print_joined};
+use smv_meaning::items::Item;
 use smv_meaning::mentions::push_paths;
 use std::alloc::Global;
 
-/// The names of a path with dots between them.
+/// The names of a path, joined by dots.
 fn path_text(alloc: Global, path: &Path) -> Result<Text, NoMemory>
     ensures { IfOk result (λ text. text ≡ joined_names path.now.names) }
 {
@@ -24,139 +21,150 @@ fn path_text(alloc: Global, path: &Path) -> Result<Text, NoMemory>
     Text::from_str(alloc, out.as_str())
 }
 
-fn check_path(alloc: Global, sight: &Sight, path: &Path) -> Result<(), Fault>
-    requires { spec.IsSight sight.now }
-    ensures { TellsFirst (spec.unknown_path (spec.seen_program sight.now) sight.now.called.now path.now) result }
+fn unknown_path(
+    alloc: Global,
+    module_scope: &ModuleScope,
+    path: &Path,
+) -> Result<Option<Fault>, NoMemory>
+    requires { spec.IsModuleScope module_scope.now }
+    ensures { IfOk result (λ fault. fault ≡ spec.unknown_path (spec.scope_program module_scope.now)
+        module_scope.now.called.now path.now) }
 {
     let names = path.names.as_slice();
-    if is_known(sight, names) {
-        return Ok(());
+    if is_known(module_scope, names) {
+        return Ok(None);
     }
-    Err(Fault::UnknownName {
+    Ok(Some(Fault::UnknownName {
         at: Some(path.at),
         path: path_text(alloc, path)?,
-    })
+    }))
 }
 
-fn check_paths(alloc: Global, sight: &Sight, paths: &[&Path]) -> Result<(), Fault>
-    requires { spec.IsSight sight.now }
-    ensures { TellsFirst (first_some (spec.unknown_path (spec.seen_program sight.now) sight.now.called.now) (pointed paths.now)) result }
+fn unknown_among(
+    alloc: Global,
+    module_scope: &ModuleScope,
+    paths: &[&Path],
+) -> Result<Option<Fault>, NoMemory>
+    requires { spec.IsModuleScope module_scope.now }
+    ensures { IfOk result (λ fault. fault ≡ first_fault
+        (spec.unknown_path (spec.scope_program module_scope.now) module_scope.now.called.now)
+        (pointed paths.now)) }
 {
     for path in paths {
-        check_path(alloc, sight, path)?;
+        match unknown_path(alloc, module_scope, path)? {
+            Some(fault) => return Ok(Some(fault)),
+            None => {}
+        }
     }
-    Ok(())
+    Ok(None)
 }
 
-/// The paths of an expression.
-fn check_expr(alloc: Global, sight: &Sight, e: &Expr) -> Result<(), Fault>
-    requires { spec.IsSight sight.now }
-    ensures { TellsFirst (spec.unknown_in (spec.seen_program sight.now) sight.now.called.now e.now) result }
+/// The first unknown path of an expression.
+fn unknown_in(
+    alloc: Global,
+    module_scope: &ModuleScope,
+    e: &Expr,
+) -> Result<Option<Fault>, NoMemory>
+    requires { spec.IsModuleScope module_scope.now }
+    ensures { IfOk result (λ fault. fault ≡ spec.unknown_in (spec.scope_program module_scope.now)
+        module_scope.now.called.now e.now) }
 {
     let mut paths = Vec::new(alloc);
     push_paths(&mut paths, e)?;
-    check_paths(alloc, sight, paths.as_slice())
+    unknown_among(alloc, module_scope, paths.as_slice())
 }
 
-/// The paths of expressions one after another.
-fn check_exprs(alloc: Global, sight: &Sight, exprs: &[Expr]) -> Result<(), Fault>
-    requires { spec.IsSight sight.now }
-    ensures { TellsFirst (first_some (spec.unknown_in (spec.seen_program sight.now) sight.now.called.now) exprs.now) result }
+/// The first unknown path of these expressions.
+fn unknown_within(
+    alloc: Global,
+    module_scope: &ModuleScope,
+    exprs: &[Expr],
+) -> Result<Option<Fault>, NoMemory>
+    requires { spec.IsModuleScope module_scope.now }
+    ensures { IfOk result (λ fault. fault ≡ first_fault
+        (spec.unknown_in (spec.scope_program module_scope.now) module_scope.now.called.now)
+        exprs.now) }
 {
     for e in exprs {
-        check_expr(alloc, sight, e)?;
+        match unknown_in(alloc, module_scope, e)? {
+            Some(fault) => return Ok(Some(fault)),
+            None => {}
+        }
     }
-    Ok(())
+    Ok(None)
 }
 
-/// A left side is a name of the module.
-fn check_left(alloc: Global, sight: &Sight, at: Span, name: &Text) -> Result<(), Fault>
-    requires { spec.IsSight sight.now }
-    ensures { TellsFirst (spec.unknown_left (spec.seen_program sight.now) sight.now.called.now at name.now) result }
+/// The fault of a left side that the module does not declare.
+fn unknown_left(
+    alloc: Global,
+    module_scope: &ModuleScope,
+    at: Span,
+    name: &Text,
+) -> Result<Option<Fault>, NoMemory>
+    requires { spec.IsModuleScope module_scope.now }
+    ensures { IfOk result (λ fault. fault ≡ spec.unknown_left (spec.scope_program module_scope.now)
+        module_scope.now.called.now at name.now) }
 {
-    if sight.declared.contains(name.as_str()) {
-        return Ok(());
+    if module_scope.declared.contains(name.as_str()) {
+        return Ok(None);
     }
-    Err(Fault::UnknownName {
+    Ok(Some(Fault::UnknownName {
         at: Some(at),
         path: name.try_clone(alloc)?,
-    })
+    }))
 }
 
-fn check_assignment(alloc: Global, sight: &Sight, assignment: &Assignment) -> Result<(), Fault>
-    requires { spec.IsSight sight.now }
-    ensures { TellsFirst (spec.unknown_assignment (spec.seen_program sight.now) sight.now.called.now assignment.now) result }
-{
-    check_left(alloc, sight, assignment.at, &assignment.name)?;
-    check_expr(alloc, sight, &assignment.right)
-}
-
-fn check_assignments(alloc: Global, sight: &Sight, assignments: &[Assignment]) -> Result<(), Fault>
-    requires { spec.IsSight sight.now }
-    ensures { TellsFirst (first_some (spec.unknown_assignment (spec.seen_program sight.now) sight.now.called.now) assignments.now) result }
-{
-    for assignment in assignments {
-        check_assignment(alloc, sight, assignment)?;
-    }
-    Ok(())
-}
-
-fn check_declared(alloc: Global, sight: &Sight, what: &Declared) -> Result<(), Fault>
-    requires { spec.IsSight sight.now }
-    ensures { TellsFirst (spec.unknown_declared (spec.seen_program sight.now) sight.now.called.now what.now) result }
-{
-    match what {
-        Declared::Plain(_) => Ok(()),
-        Declared::Instance { actuals, .. } => check_exprs(alloc, sight, actuals.as_slice()),
-    }
-}
-
-fn check_declarations(
+fn unknown_target(
     alloc: Global,
-    sight: &Sight,
-    declarations: &[Declaration],
-) -> Result<(), Fault>
-    requires { spec.IsSight sight.now }
-    ensures { TellsFirst (first_some (spec.unknown_declaration (spec.seen_program sight.now) sight.now.called.now) declarations.now) result }
+    module_scope: &ModuleScope,
+    item: Item,
+) -> Result<Option<Fault>, NoMemory>
+    requires { spec.IsModuleScope module_scope.now }
+    ensures { IfOk result (λ fault. fault
+        ≡ spec.unknown_target (spec.scope_program module_scope.now) module_scope.now.called.now
+        (item_view item.entry)) }
 {
-    for declaration in declarations {
-        check_declared(alloc, sight, &declaration.what)?;
-    }
-    Ok(())
-}
-
-fn check_definitions(alloc: Global, sight: &Sight, definitions: &[Definition]) -> Result<(), Fault>
-    requires { spec.IsSight sight.now }
-    ensures { TellsFirst (first_some (spec.unknown_definition (spec.seen_program sight.now) sight.now.called.now) definitions.now) result }
-{
-    for definition in definitions {
-        check_expr(alloc, sight, &definition.right)?;
-    }
-    Ok(())
-}
-
-fn check_section(alloc: Global, sight: &Sight, section: &Section) -> Result<(), Fault>
-    requires { spec.IsSight sight.now }
-    ensures { TellsFirst (spec.unknown_section (spec.seen_program sight.now) sight.now.called.now section.now) result }
-{
-    match section {
-        Section::Vars(declarations) => check_declarations(alloc, sight, declarations.as_slice()),
-        Section::Assigns(assignments) => check_assignments(alloc, sight, assignments.as_slice()),
-        Section::Defines(definitions) => check_definitions(alloc, sight, definitions.as_slice()),
-        Section::Init(e, _) => check_expr(alloc, sight, e),
-        Section::Invar(e, _) => check_expr(alloc, sight, e),
-        Section::Trans(e, _) => check_expr(alloc, sight, e),
-        Section::InvarSpec(e, _) => check_expr(alloc, sight, e),
+    match item {
+        Item::Assignment(assignment) => {
+            unknown_left(alloc, module_scope, assignment.at, &assignment.name)
+        }
+        _ => Ok(None),
     }
 }
 
-/// The first path or left side of these sections that stands for nothing.
-pub fn check_sections(alloc: Global, sight: &Sight, sections: &[Section]) -> Result<(), Fault>
-    requires { spec.IsSight sight.now }
-    ensures { TellsFirst (first_some (spec.unknown_section (spec.seen_program sight.now) sight.now.called.now) sections.now) result }
+/// The first unknown name of an item, a left side before the paths of its expressions.
+fn unknown_name(
+    alloc: Global,
+    module_scope: &ModuleScope,
+    item: Item,
+) -> Result<Option<Fault>, NoMemory>
+    requires { spec.IsModuleScope module_scope.now }
+    ensures { IfOk result (λ fault. fault
+        ≡ spec.unknown_name (spec.scope_program module_scope.now) module_scope.now.called.now
+        (item_view item.entry)) }
 {
-    for section in sections {
-        check_section(alloc, sight, section)?;
+    match unknown_target(alloc, module_scope, item)? {
+        Some(fault) => Ok(Some(fault)),
+        None => unknown_within(alloc, module_scope, item.exprs()),
     }
-    Ok(())
+}
+
+/// The first unknown path or left side of these items.
+pub fn first_unknown(
+    alloc: Global,
+    module_scope: &ModuleScope,
+    items: &[Item],
+) -> Result<Option<Fault>, NoMemory>
+    requires { spec.IsModuleScope module_scope.now }
+    ensures { IfOk result (λ fault. fault ≡ first_fault
+        (spec.unknown_name (spec.scope_program module_scope.now) module_scope.now.called.now)
+        (items_view items.now)) }
+{
+    for item in items {
+        match unknown_name(alloc, module_scope, *item)? {
+            Some(fault) => return Ok(Some(fault)),
+            None => {}
+        }
+    }
+    Ok(None)
 }

@@ -1,42 +1,58 @@
-//! Instances of no module, and a missing `main`.
+//! Instances of unknown modules, and a missing `main`.
 
-ghost use Rattle.smv_meaning.specs.Faults.{TellsFirst};
-ghost use Rattle.smv_meaning.specs.Runs.{first_some};
+ghost use Rattle.std.specs.Prelude.{◌≡◌, IfOk};
+ghost use Rattle.smv_meaning.specs.Faults.{ReportsFirst};
+ghost use Rattle.smv_meaning.specs.Items.{program_items as items_of_program};
+ghost use Rattle.smv_meaning.specs.Runs.{first_fault};
 ghost use Rattle.smv_names.specs.Modules as spec;
 
-use crate::instances::{Judge, judge_module};
 use crate::numbers::module_named;
-use smv_ast::{Expr, Fault, Program, Span, Text};
+use smv_ast::{Declared, Fault, NoMemory, Program, Span, Text};
+use smv_meaning::items::{Item, program_items};
+use smv_meaning::rules::{ItemRule, check_items};
 use std::alloc::Global;
 use std::collections::HashMap;
 
-/// An instance is of a module of the program.
+/// The rule that the program has the module of an instance.
 #[derive(Drop)]
 struct IsOfModule<'p> {
     program: &'p Program,
     numbers: &'p HashMap<&'p str, usize>,
-    ghost tells: { spec.TellsNumbers program.now numbers.now },
+    ghost numbering: { spec.IsNumbering program.now numbers.now },
 }
 
-impl<'p> Judge for IsOfModule<'p> {
+impl<'p> IsOfModule<'p> {
+    fn fault(&self, alloc: Global, at: Span, what: &Declared) -> Result<Option<Fault>, NoMemory>
+        ensures { IfOk result (λ fault. fault
+            ≡ spec.unknown_declared self.now.program.now at what.now) }
+    {
+        match what {
+            Declared::Plain(_) => Ok(None),
+            Declared::Instance { module, .. } => {
+                if module_named(self.program, self.numbers, module.as_str()).is_some() {
+                    return Ok(None);
+                }
+                Ok(Some(Fault::UnknownModule {
+                    at: Some(at),
+                    name: module.try_clone(alloc)?,
+                }))
+            }
+        }
+    }
+}
+
+impl<'p> ItemRule<Fault> for IsOfModule<'p> {
     ghost use Rattle.smv_names.specs.Modules.{unknown_instance};
 
-    ghost judged = { λ me. unknown_instance me.program.now };
+    ghost reports = { λ me. unknown_instance me.program.now };
 
-    fn judge(
-        &self,
-        alloc: Global,
-        at: Span,
-        called: &Text,
-        _actuals: &[Expr],
-    ) -> Result<(), Fault> {
-        if module_named(self.program, self.numbers, called.as_str()).is_some() {
-            return Ok(());
+    fn judge(&self, alloc: Global, item: Item) -> Result<Option<Fault>, NoMemory> {
+        match item {
+            Item::Declaration(declaration) => {
+                self.fault(alloc, declaration.at, &declaration.what)
+            }
+            _ => Ok(None),
         }
-        Err(Fault::UnknownModule {
-            at: Some(at),
-            name: called.try_clone(alloc)?,
-        })
     }
 }
 
@@ -45,19 +61,17 @@ fn check_instances(
     program: &Program,
     numbers: &HashMap<&str, usize>,
 ) -> Result<(), Fault>
-    requires { spec.TellsNumbers program.now numbers.now }
-    ensures { TellsFirst (first_some (spec.of_module (spec.unknown_instance program.now)) program.now.modules) result }
+    requires { spec.IsNumbering program.now numbers.now }
+    ensures { ReportsFirst (first_fault (spec.unknown_instance program.now)
+        (items_of_program program.now)) result }
 {
-    let rule = IsOfModule { program, numbers };
-    for owner in program.modules.as_slice() {
-        judge_module(alloc, &rule, owner)?;
-    }
-    Ok(())
+    let items = program_items(alloc, program)?;
+    check_items(alloc, &IsOfModule { program, numbers }, items.as_slice())
 }
 
 fn check_main(alloc: Global, program: &Program, numbers: &HashMap<&str, usize>) -> Result<(), Fault>
-    requires { spec.TellsNumbers program.now numbers.now }
-    ensures { TellsFirst (spec.missing_main program.now) result }
+    requires { spec.IsNumbering program.now numbers.now }
+    ensures { ReportsFirst (spec.missing_main program.now) result }
 {
     if module_named(program, numbers, "main").is_some() {
         return Ok(());
@@ -68,14 +82,14 @@ fn check_main(alloc: Global, program: &Program, numbers: &HashMap<&str, usize>) 
     })
 }
 
-/// The first instance of no module, and behind all of them a missing `main`.
+/// The first instance of an unknown module; without one, a missing `main`.
 pub fn check_known_modules(
     alloc: Global,
     program: &Program,
     numbers: &HashMap<&str, usize>,
 ) -> Result<(), Fault>
-    requires { spec.TellsNumbers program.now numbers.now }
-    ensures { TellsFirst (spec.unknown_module_fault program.now) result }
+    requires { spec.IsNumbering program.now numbers.now }
+    ensures { ReportsFirst (spec.unknown_module_fault program.now) result }
 {
     check_instances(alloc, program, numbers)?;
     check_main(alloc, program, numbers)

@@ -1,3 +1,3 @@
 pub mod OwnLemmas
-pub mod ReadLemmas
+pub mod MentionLemmas
 pub mod CountLemmas

@@ -1,40 +1,46 @@
--- Nodes as the code counts them, by the numbers of instances and of their names in a table.
+-- The count of nodes, over the rows and slots of the instance table.
 use Rattle.std.specs.Prelude.{ℕ, ◌&&◌, Bool, nat_eq, List, map, slice_get}
 use mathlib.Core.Bool.{beq}
 use Rattle.smv_ast.specs.declared.program.Section.{Section}
 use Rattle.smv_ast.specs.declared.program.Program.{Program}
-use Rattle.smv_meaning.specs.declared.tree.Tree.{Tree}
+use Rattle.smv_meaning.specs.declared.table.InstanceTable.{InstanceTable}
 use Rattle.smv_meaning.specs.Value.{and_then}
-use Rattle.smv_meaning.specs.Tree.{meant_seen}
-use Rattle.smv_meaning.specs.Slots.{leads_to}
-use Rattle.smv_meaning.specs.Checking.{stands}
+use Rattle.smv_meaning.specs.InstanceTable.{binding_view}
+use Rattle.smv_meaning.specs.Slots.{resolve_slot}
+use Rattle.smv_meaning.specs.Checking.{instance_at}
 use Rattle.smv_meaning.specs.RunCheck.{sections_at}
-use Rattle.smv_nodes.specs.declared.pieces.Piece.{Piece as HeldPiece}
-use Rattle.smv_nodes.specs.Count.{Lookup, content, Piece, Shared, item_pieces}
+use Rattle.smv_nodes.specs.declared.read_exprs.ReadExpr.{ReadExpr as HeldReadExpr}
+use Rattle.smv_nodes.specs.Count.{Lookup, content, ReadExpr, Shared, item_exprs}
 
--- the names of the instances of a table, by their slots
-abbrev pub of_table : Tree → Lookup ℕ ℕ
-of_table tree = record {
-  leads = leads_to tree;
-  behind = λ k. and_then (slice_get tree.slots k) (λ slot. content slot.row (meant_seen slot.meant));
+-- the resolution of names by the slots of a table
+abbrev pub of_table : InstanceTable → Lookup ℕ ℕ
+of_table table = record {
+  resolve = resolve_slot table;
+  content_of = λ k. and_then (slice_get table.slots k)
+      (λ slot. content slot.row (binding_view slot.binding));
 }
 
--- the sections of the instance of a number
-abbrev pub table_sections : Program → Tree → ℕ → List Section
-table_sections program tree row = sections_at program (stands tree row)
+-- the sections of the instance of this number
+abbrev pub table_sections : Program → InstanceTable → ℕ → List Section
+table_sections program table row = sections_at program (instance_at table row)
 
--- the items of these instances
-abbrev pub table_pieces : Program → Tree → List ℕ → List (Piece ℕ)
-table_pieces program tree order = item_pieces (table_sections program tree) order
+-- the expressions of the items of these instances
+abbrev pub table_exprs : Program → InstanceTable → List ℕ → List (ReadExpr ℕ)
+table_exprs program table order = item_exprs (table_sections program table) order
 
--- whether two shared nodes are one
+-- whether two shared nodes are equal
 abbrev pub same : Shared ℕ → Shared ℕ → Bool
 same a b = nat_eq a.0 b.0 && beq a.1 b.1
 
--- what a held piece says
-abbrev pub seen : HeldPiece → Piece ℕ
-seen p = record { place = p.row; right = p.right.now; assigned = p.assigned; late = p.late }
+-- the expression that a Rust value represents
+abbrev pub read_expr_view : HeldReadExpr → ReadExpr ℕ
+read_expr_view p = record {
+  instance = p.row;
+  right = p.right.now;
+  assigned = p.assigned;
+  after_step = p.after_step;
+}
 
--- what held pieces say
-abbrev pub all_seen : List HeldPiece → List (Piece ℕ)
-all_seen = map seen
+-- the expressions that Rust values represent
+abbrev pub read_expr_views : List HeldReadExpr → List (ReadExpr ℕ)
+read_expr_views = map read_expr_view

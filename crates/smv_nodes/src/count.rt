@@ -1,4 +1,4 @@
-//! How many nodes the constraints and specs of a program make.
+//! The number of nodes of the expression graph of a program's constraints and specs.
 
 ghost use Rattle.std.specs.Prelude.{◌≡◌, ◌<◌, IfOk, OnOk, fold, length, slice_get};
 ghost use Rattle.std.specs.List.{flat_map, IsDistinct};
@@ -7,77 +7,89 @@ ghost use Rattle.indexmap.specs.IndexSet.{insert_key};
 ghost use Rattle.smv_meaning.specs.Value.{and_then};
 ghost use Rattle.smv_meaning.specs.Slots as slots;
 ghost use Rattle.smv_meaning.specs.Checking as checking;
-ghost use Rattle.smv_meaning.specs.Tree.{meant_seen};
-ghost use Rattle.smv_nodes.specs.Own.{plus};
-ghost use Rattle.smv_nodes.specs.Reads as reads_spec;
+ghost use Rattle.smv_meaning.specs.InstanceTable.{binding_view};
+ghost use Rattle.smv_nodes.specs.Own.{saturating_add};
+ghost use Rattle.smv_nodes.specs.Mentions as mentions_spec;
 ghost use Rattle.smv_nodes.specs.Count as spec;
 ghost use Rattle.smv_nodes.specs.Held as held;
 
+use crate::mentions::{Mention, push_reads};
 use crate::own::nodes_of;
-use crate::pieces::{Piece, item_pieces};
-use crate::reads::{Mention, push_reads};
+use crate::read_exprs::{ReadExpr, item_exprs};
 use indexmap::IndexSet;
 use smv_ast::{NoMemory, Program};
-use smv_meaning::standing::leads;
-use smv_meaning::tree::{Meant, Tree};
+use smv_meaning::aliases::resolve;
+use smv_meaning::table::{Binding, InstanceTable};
 use sqlite_items::at;
 use std::alloc::Global;
 
-/// The piece behind a name of an instance.
-fn piece_of<'a>(row: usize, meant: Meant<'a>, late: bool) -> Option<Piece<'a>>
-    ensures { option_map held.seen result ≡ and_then (spec.content row (meant_seen meant.entry)) (λ c. Some (spec.value_piece c.0 c.1 late)) }
+/// The expression of a binding in an instance, now or after the step.
+fn read_expr_of<'a>(row: usize, binding: Binding<'a>, after_step: bool) -> Option<ReadExpr<'a>>
+    ensures { option_map held.read_expr_view result
+        ≡ and_then (spec.content row (binding_view binding.entry))
+        (λ c. Some (spec.value_expr c.0 c.1 after_step)) }
 {
-    match meant {
-        Meant::Define(right) => Some(Piece {
+    match binding {
+        Binding::Define(right) => Some(ReadExpr {
             row,
             right,
             assigned: false,
-            late,
+            after_step,
         }),
-        Meant::Formal(outer, actual) => Some(Piece {
+        Binding::Formal(outer, actual) => Some(ReadExpr {
             row: outer,
             right: actual,
             assigned: false,
-            late,
+            after_step,
         }),
         _ => None,
     }
 }
 
-/// The piece behind a slot that is read after the step or now.
-fn shared_piece<'s, 'a>(tree: &Tree<'s, 'a>, slot: usize, late: bool) -> Option<Piece<'a>>
-    ensures { option_map held.seen result ≡ spec.shared_piece (held.of_table tree.now) (slot, late) }
+/// The expression of a slot, now or after the step.
+fn shared_expr<'s, 'a>(
+    table: &InstanceTable<'s, 'a>,
+    slot: usize,
+    after_step: bool,
+) -> Option<ReadExpr<'a>>
+    ensures { option_map held.read_expr_view result
+        ≡ spec.shared_expr (held.of_table table.now) (slot, after_step) }
 {
-    match at(tree.slots.as_slice(), slot).copied() {
-        Some(slot) => piece_of(slot.row, slot.meant, late),
+    match at(table.slots.as_slice(), slot).copied() {
+        Some(slot) => read_expr_of(slot.row, slot.binding, after_step),
         None => None,
     }
 }
 
-/// The shared node for which a name stands in an instance, if it leads to a DEFINE or formal.
+/// The shared node of a name in an instance, if the name resolves to a definition or formal.
 fn shared_by(
-    tree: &Tree,
-    standing: &[Option<usize>],
+    table: &InstanceTable,
+    aliases: &[Option<usize>],
     row: usize,
     mention: Mention,
 ) -> Option<(usize, bool)>
-    requires has { slots.HasSlots tree.now }
-    requires tells { slots.TellsStanding tree.now standing.now }
-    ensures { result ≡ spec.shared_by (held.of_table tree.now) row (reads_spec.seen mention.entry) }
+    requires has { slots.HasSlots table.now }
+    requires is_of { slots.AreAliases table.now aliases.now }
+    ensures { result ≡ spec.shared_by (held.of_table table.now) row
+        (mentions_spec.mention_view mention.entry) }
 {
-    match leads(tree, standing, row, mention.path.names.as_slice()) {
-        Some(slot) => match shared_piece(tree, slot, mention.late) {
-            Some(_) => Some((slot, mention.late)),
+    match resolve(table, aliases, row, mention.path.names.as_slice()) {
+        Some(slot) => match shared_expr(table, slot, mention.after_step) {
+            Some(_) => Some((slot, mention.after_step)),
             None => None,
         },
         None => None,
     }
 }
 
-/// Notes the shared node for which a name stands, and tells how many nodes the name has of its own.
-fn note(found: &mut IndexSet<(usize, bool)>, shared: Option<(usize, bool)>) -> Result<u64, NoMemory>
+/// Inserts the shared node of a name, and returns the number of nodes that the name adds by itself.
+fn insert_shared(
+    found: &mut IndexSet<(usize, bool)>,
+    shared: Option<(usize, bool)>,
+) -> Result<u64, NoMemory>
     ensures own { IfOk result (λ n. n ≡ spec.name_nodes shared) }
-    ensures found { OnOk result (found.new.keys ≡ fold (insert_key held.same) found.old.keys (option_to_list shared)) }
+    ensures found { OnOk result
+        (found.new.keys ≡ fold (insert_key held.same) found.old.keys (option_to_list shared)) }
 {
     match shared {
         Some(shared) => {
@@ -88,35 +100,40 @@ fn note(found: &mut IndexSet<(usize, bool)>, shared: Option<(usize, bool)>) -> R
     }
 }
 
-/// Notes the shared nodes of these names, and adds the nodes that the names have of their own.
-#[tactic(auto, using(crate::proofs::OwnLemmas::plus_assoc, crate::proofs::OwnLemmas::plus_more, crate::proofs::OwnLemmas::plus_zero))]
+/// Inserts the shared nodes of these names, and returns the nodes that the names add by themselves.
+#[tactic(auto, using(crate::proofs::OwnLemmas::saturating_add_assoc, crate::proofs::OwnLemmas::saturating_add_more, crate::proofs::OwnLemmas::saturating_add_zero))]
 fn take_names(
     found: &mut IndexSet<(usize, bool)>,
-    tree: &Tree,
-    standing: &[Option<usize>],
+    table: &InstanceTable,
+    aliases: &[Option<usize>],
     row: usize,
-    reads: &[Mention],
+    mentions: &[Mention],
     before: u64,
 ) -> Result<u64, NoMemory>
-    requires has { slots.HasSlots tree.now }
-    requires tells { slots.TellsStanding tree.now standing.now }
-    ensures count { IfOk result (λ n. n ≡ plus before (spec.names_nodes (held.of_table tree.now) row (reads_spec.all_seen reads.now))) }
-    ensures found { OnOk result (found.new.keys ≡ fold (insert_key held.same) found.old.keys (spec.shared_among (held.of_table tree.now) row (reads_spec.all_seen reads.now))) }
+    requires has { slots.HasSlots table.now }
+    requires is_of { slots.AreAliases table.now aliases.now }
+    ensures count { IfOk result
+        (λ n. n ≡ saturating_add before (spec.names_nodes (held.of_table table.now) row
+        (mentions_spec.mention_views mentions.now))) }
+    ensures found { OnOk result
+        (found.new.keys ≡ fold (insert_key held.same) found.old.keys
+        (spec.shared_among (held.of_table table.now) row
+        (mentions_spec.mention_views mentions.now))) }
 {
     let mut count = before;
-    for mention in reads {
-        let own = note(found, shared_by(tree, standing, row, *mention))?;
+    for mention in mentions {
+        let own = insert_shared(found, shared_by(table, aliases, row, *mention))?;
         count = count.saturating_add(own);
     }
     Ok(count)
 }
 
-/// The nodes that a piece makes by itself.
-fn own_nodes(piece: Piece) -> u64
-    ensures { result ≡ spec.own_nodes (held.seen piece.entry) }
+/// The nodes of an expression, without its names.
+fn own_nodes(read_expr: ReadExpr) -> u64
+    ensures { result ≡ spec.own_nodes (held.read_expr_view read_expr.entry) }
 {
-    let nodes = nodes_of(piece.right);
-    if piece.assigned {
+    let nodes = nodes_of(read_expr.right);
+    if read_expr.assigned {
         // The node of the variable comes first.
         nodes.right.saturating_add(1)
     } else {
@@ -124,70 +141,91 @@ fn own_nodes(piece: Piece) -> u64
     }
 }
 
-/// Notes the shared nodes that a piece reads, and adds its nodes.
-#[tactic(auto, using(crate::proofs::OwnLemmas::plus_assoc))]
-fn take_piece(
+/// Inserts the shared nodes that an expression reads, and adds its nodes.
+#[tactic(auto, using(crate::proofs::OwnLemmas::saturating_add_assoc))]
+fn take_expr(
     alloc: Global,
     found: &mut IndexSet<(usize, bool)>,
-    tree: &Tree,
-    standing: &[Option<usize>],
-    piece: Piece,
+    table: &InstanceTable,
+    aliases: &[Option<usize>],
+    read_expr: ReadExpr,
     before: u64,
 ) -> Result<u64, NoMemory>
-    requires has { slots.HasSlots tree.now }
-    requires tells { slots.TellsStanding tree.now standing.now }
-    ensures count { IfOk result (λ n. n ≡ plus before (spec.piece_nodes (held.of_table tree.now) (held.seen piece.entry))) }
-    ensures found { OnOk result (found.new.keys ≡ fold (insert_key held.same) found.old.keys (spec.shared_in (held.of_table tree.now) (held.seen piece.entry))) }
+    requires has { slots.HasSlots table.now }
+    requires is_of { slots.AreAliases table.now aliases.now }
+    ensures count { IfOk result
+        (λ n. n ≡ saturating_add before (spec.expr_nodes (held.of_table table.now)
+        (held.read_expr_view read_expr.entry))) }
+    ensures found { OnOk result
+        (found.new.keys ≡ fold (insert_key held.same) found.old.keys
+        (spec.shared_in (held.of_table table.now) (held.read_expr_view read_expr.entry))) }
 {
-    let mut reads = Vec::new(alloc);
-    push_reads(&mut reads, piece.right, piece.late)?;
-    let count = before.saturating_add(own_nodes(piece));
-    take_names(found, tree, standing, piece.row, reads.as_slice(), count)
+    let mut mentions = Vec::new(alloc);
+    push_reads(&mut mentions, read_expr.right, read_expr.after_step)?;
+    let count = before.saturating_add(own_nodes(read_expr));
+    take_names(
+        found,
+        table,
+        aliases,
+        read_expr.row,
+        mentions.as_slice(),
+        count,
+    )
 }
 
-/// The same of all these pieces, from nothing.
-#[tactic(auto, using(crate::proofs::OwnLemmas::plus_assoc, crate::proofs::OwnLemmas::plus_more, crate::proofs::CountLemmas::pieces_whole))]
-fn take_pieces(
+/// Inserts and counts for all these expressions, from the empty set.
+#[tactic(auto, using(crate::proofs::OwnLemmas::saturating_add_assoc, crate::proofs::OwnLemmas::saturating_add_more, crate::proofs::CountLemmas::exprs_whole))]
+fn take_exprs(
     alloc: Global,
     found: &mut IndexSet<(usize, bool)>,
-    tree: &Tree,
-    standing: &[Option<usize>],
-    pieces: &[Piece],
+    table: &InstanceTable,
+    aliases: &[Option<usize>],
+    read_exprs: &[ReadExpr],
 ) -> Result<u64, NoMemory>
-    requires has { slots.HasSlots tree.now }
-    requires tells { slots.TellsStanding tree.now standing.now }
-    ensures count { IfOk result (λ n. n ≡ spec.pieces_nodes (held.of_table tree.now) (held.all_seen pieces.now)) }
-    ensures found { OnOk result (found.new.keys ≡ fold (insert_key held.same) found.old.keys (flat_map (spec.shared_in (held.of_table tree.now)) (held.all_seen pieces.now))) }
+    requires has { slots.HasSlots table.now }
+    requires is_of { slots.AreAliases table.now aliases.now }
+    ensures count { IfOk result
+        (λ n. n ≡ spec.exprs_nodes (held.of_table table.now)
+        (held.read_expr_views read_exprs.now)) }
+    ensures found { OnOk result
+        (found.new.keys ≡ fold (insert_key held.same) found.old.keys
+        (flat_map (spec.shared_in (held.of_table table.now))
+        (held.read_expr_views read_exprs.now))) }
 {
     let mut count = 0;
-    for piece in pieces {
-        count = take_piece(alloc, found, tree, standing, *piece, count)?;
+    for read_expr in read_exprs {
+        count = take_expr(alloc, found, table, aliases, *read_expr, count)?;
     }
     Ok(count)
 }
 
-/// The same of what stands behind a shared node.
-#[tactic(auto, using(crate::proofs::CountLemmas::one_piece, crate::proofs::OwnLemmas::plus_zero, crate::proofs::CountLemmas::one_shared))]
+/// Inserts and counts for the expression of a shared node.
+#[tactic(auto, using(crate::proofs::CountLemmas::one_read_expr, crate::proofs::OwnLemmas::saturating_add_zero, crate::proofs::CountLemmas::one_shared))]
 fn take_shared(
     alloc: Global,
     found: &mut IndexSet<(usize, bool)>,
-    tree: &Tree,
-    standing: &[Option<usize>],
+    table: &InstanceTable,
+    aliases: &[Option<usize>],
     shared: (usize, bool),
     before: u64,
 ) -> Result<u64, NoMemory>
-    requires has { slots.HasSlots tree.now }
-    requires tells { slots.TellsStanding tree.now standing.now }
-    ensures count { IfOk result (λ n. n ≡ plus before (spec.pieces_nodes (held.of_table tree.now) (option_to_list (spec.shared_piece (held.of_table tree.now) shared)))) }
-    ensures found { OnOk result (found.new.keys ≡ fold (insert_key held.same) found.old.keys (flat_map (spec.shared_in (held.of_table tree.now)) (option_to_list (spec.shared_piece (held.of_table tree.now) shared)))) }
+    requires has { slots.HasSlots table.now }
+    requires is_of { slots.AreAliases table.now aliases.now }
+    ensures count { IfOk result
+        (λ n. n ≡ saturating_add before (spec.exprs_nodes (held.of_table table.now)
+        (option_to_list (spec.shared_expr (held.of_table table.now) shared)))) }
+    ensures found { OnOk result
+        (found.new.keys ≡ fold (insert_key held.same) found.old.keys
+        (flat_map (spec.shared_in (held.of_table table.now))
+        (option_to_list (spec.shared_expr (held.of_table table.now) shared)))) }
 {
-    match shared_piece(tree, shared.0, shared.1) {
-        Some(piece) => take_piece(alloc, found, tree, standing, piece, before),
+    match shared_expr(table, shared.0, shared.1) {
+        Some(read_expr) => take_expr(alloc, found, table, aliases, read_expr, before),
         None => Ok(before),
     }
 }
 
-/// The shared node that was found at this place.
+/// The shared node at this index.
 fn found_at(found: &IndexSet<(usize, bool)>, k: usize) -> Option<(usize, bool)>
     ensures found { result ≡ slice_get found.now.keys k }
     ensures once { IsDistinct held.same found.now.keys }
@@ -199,23 +237,24 @@ fn found_at(found: &IndexSet<(usize, bool)>, k: usize) -> Option<(usize, bool)>
     }
 }
 
-/// The nodes of these pieces, and of all shared nodes that are reached from them.
-fn count_pieces(
+/// The nodes of these expressions, and of all shared nodes that are reachable from them.
+fn count_read_exprs(
     alloc: Global,
-    tree: &Tree,
-    standing: &[Option<usize>],
-    pieces: &[Piece],
+    table: &InstanceTable,
+    aliases: &[Option<usize>],
+    read_exprs: &[ReadExpr],
 ) -> Result<u64, NoMemory>
-    requires has { slots.HasSlots tree.now }
-    requires tells { slots.TellsStanding tree.now standing.now }
-    ensures { IfOk result (λ n. spec.IsCount (held.of_table tree.now) (held.all_seen pieces.now) n) }
+    requires has { slots.HasSlots table.now }
+    requires is_of { slots.AreAliases table.now aliases.now }
+    ensures { IfOk result (λ n. spec.IsCount (held.of_table table.now)
+        (held.read_expr_views read_exprs.now) n) }
 {
     let mut found = IndexSet::new(alloc);
-    let mut count = take_pieces(alloc, &mut found, tree, standing, pieces)?;
+    let mut count = take_exprs(alloc, &mut found, table, aliases, read_exprs)?;
     for k in 0..usize::MAX {
         match found_at(&found, k) {
             Some(shared) => {
-                count = take_shared(alloc, &mut found, tree, standing, shared, count)?;
+                count = take_shared(alloc, &mut found, table, aliases, shared, count)?;
             }
             None => return Ok(count),
         }
@@ -224,21 +263,22 @@ fn count_pieces(
     Err(NoMemory)
 }
 
-/// How many nodes the constraints and specs of a program make, by its table of instances, their order
-/// and the instances for which names stand. Sums stand still at the greatest number of 64 bits. The
-/// only error is want of memory.
+/// The number of nodes of the constraints and specs of a program, given its instance table, the
+/// order of the instances and the alias of each slot. Sums saturate at the end of `u64`. The only
+/// error is `NoMemory`.
 pub fn count_nodes(
     alloc: Global,
     program: &Program,
-    tree: &Tree,
-    standing: &[Option<usize>],
+    table: &InstanceTable,
+    aliases: &[Option<usize>],
     order: &[usize],
 ) -> Result<u64, NoMemory>
-    requires right { checking.IsRight program.now tree.now }
-    requires tells { slots.TellsStanding tree.now standing.now }
-    requires rows { checking.AreRows tree.now order.now }
-    ensures { IfOk result (λ n. spec.IsCount (held.of_table tree.now) (held.table_pieces program.now tree.now order.now) n) }
+    requires right { checking.IsTableOfProgram program.now table.now }
+    requires is_of { slots.AreAliases table.now aliases.now }
+    requires rows { checking.AreRows table.now order.now }
+    ensures { IfOk result (λ n. spec.IsCount (held.of_table table.now)
+        (held.table_exprs program.now table.now order.now) n) }
 {
-    let pieces = item_pieces(alloc, program, tree, order)?;
-    count_pieces(alloc, tree, standing, pieces.as_slice())
+    let read_exprs = item_exprs(alloc, program, table, order)?;
+    count_read_exprs(alloc, table, aliases, read_exprs.as_slice())
 }

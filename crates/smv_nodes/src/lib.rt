@@ -1,10 +1,10 @@
-//! How many nodes the constraints and specs of a program make.
+//! The number of nodes of the expression graph of a program's constraints and specs.
 #![tactic(auto)]
 
 mod count;
+mod mentions;
 mod own;
-mod pieces;
-mod reads;
+mod read_exprs;
 
 pub use count::count_nodes;
 

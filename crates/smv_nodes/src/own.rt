@@ -1,18 +1,18 @@
-//! How many nodes an expression makes by itself.
+//! The number of nodes of an expression by itself.
 
 ghost use Rattle.std.specs.Prelude.{◌≡◌, map, pred, length};
 ghost use Rattle.smv_nodes.specs.Own as spec;
 
 use smv_ast::{Branch, Choice, Expr, Op};
 
-/// How many nodes an expression makes, its names left aside.
+/// The number of nodes of an expression, without its names.
 #[derive(Clone, Copy, Debug, PartialEq, Eq, Drop)]
 pub struct Nodes {
-    /// As a value. Of a choice, those of its parts.
+    /// As a value. For a choice, the nodes of its parts.
     pub value: u64,
-    /// As a right side, behind the node of the variable.
+    /// As a right side, without the node of the variable.
     pub right: u64,
-    /// Whether it is a free choice, or a case that holds one.
+    /// Whether it is a free choice, or a case that contains one.
     pub free: bool,
 }
 
@@ -46,7 +46,7 @@ fn simple(value: u64) -> Nodes
     }
 }
 
-/// The nodes of an operator behind those of its operands.
+/// The nodes of an operator, without those of its operands.
 fn op_nodes(op: Op) -> u64
     ensures { result ≡ spec.op_nodes op }
 {
@@ -87,8 +87,8 @@ fn read_branch(cond: Nodes) -> Nodes
     }
 }
 
-fn settled(branches: Nodes) -> Nodes
-    ensures { result ≡ spec.settled branches }
+fn case_nodes(branches: Nodes) -> Nodes
+    ensures { result ≡ spec.case_nodes branches }
 {
     if branches.free {
         branches
@@ -110,7 +110,7 @@ fn picked(choice: Nodes) -> Nodes
 #[cycle(own)]
 #[tactic(auto, using(crate::proofs::OwnLemmas::both_assoc, crate::proofs::OwnLemmas::both_none, crate::proofs::OwnLemmas::parts_whole))]
 fn parts_nodes(parts: &[Expr]) -> Nodes
-    ensures { result ≡ spec.parts_behind 0 (map spec.nodes_of parts.now) }
+    ensures { result ≡ spec.parts_after 0 (map spec.nodes_of parts.now) }
 {
     let mut found = none();
     let mut first = true;
@@ -130,7 +130,8 @@ fn parts_nodes(parts: &[Expr]) -> Nodes
 #[cycle(own)]
 #[tactic(auto, using(crate::proofs::OwnLemmas::both_assoc, crate::proofs::OwnLemmas::both_none, crate::proofs::OwnLemmas::branches_whole))]
 fn branches_nodes(branches: &[Branch]) -> Nodes
-    ensures { result ≡ spec.branches_nodes (pred (length (map spec.branch_nodes branches.now))) (map spec.branch_nodes branches.now) }
+    ensures { result ≡ spec.branches_nodes (pred (length (map spec.branch_nodes branches.now)))
+        (map spec.branch_nodes branches.now) }
 {
     let mut found = none();
     // The last condition is not read.
@@ -159,7 +160,7 @@ fn choice_nodes(choice: &Choice) -> Nodes
     }
 }
 
-/// The nodes of an expression. Sums stand still at the greatest number of 64 bits.
+/// The nodes of an expression. Sums saturate at the end of `u64`.
 #[cycle(own)]
 pub fn nodes_of(e: &Expr) -> Nodes
     ensures { result ≡ spec.nodes_of e.now }
@@ -182,7 +183,7 @@ pub fn nodes_of(e: &Expr) -> Nodes
                     .saturating_add(choice_nodes(choice).right),
             )
         }
-        Expr::Cases(branches) => settled(branches_nodes(branches.as_slice())),
+        Expr::Cases(branches) => case_nodes(branches_nodes(branches.as_slice())),
         Expr::Next(a) => simple(nodes_of(a.get()).value),
         Expr::Pick(choice) => picked(choice_nodes(choice)),
     }

@@ -2,8 +2,9 @@ pub mod SkipRule
 pub mod ProgramRules
 pub mod ProgramLimited
 pub mod Consuming
+pub mod ProgramLocal
 pub mod ProgramAnswering
 pub mod Marks
 pub mod ModelPieces
-pub mod ModelsBack
-pub mod BackAnswering
+pub mod ModelsRoundTrip
+pub mod RoundTripAnswers

@@ -11,57 +11,57 @@ use Rattle.smv_expr.proofs.CutMarks.{mark}
 
 pub becomes : Spells (λ m. word k.Becomes) (λ at. Unit {0}) any (codes " := ")
 unfolding first_lexeme mark_lexeme word_lexeme words marks same_kind
-becomes = mark k.Becomes (codes ":=") refl refl (λ file start rest. record { place = record { file = file; at = start + 1 }; behind = start + 1 + 1 + 1 + 1; is = refl })
+becomes = mark k.Becomes (codes ":=") refl refl (λ file start remaining. record { span = record { file = file; at = start + 1 }; after_it = start + 1 + 1 + 1 + 1; is = refl })
 
 -- at the end of a line
 pub line_end : Spells (λ m. word k.Semicolon) (λ at. Unit {0}) any (codes ";\n")
 unfolding first_lexeme mark_lexeme word_lexeme words marks same_kind
-line_end = mark k.Semicolon (codes ";") refl refl (λ file start rest. record { place = record { file = file; at = start }; behind = start + 1 + 1; is = refl })
+line_end = mark k.Semicolon (codes ";") refl refl (λ file start remaining. record { span = record { file = file; at = start }; after_it = start + 1 + 1; is = refl })
 
 -- ---- words of sections
 
 pub module_word : Spells (λ m. word k.Module) (λ at. Unit {0}) any (codes "MODULE ")
 unfolding first_lexeme mark_lexeme word_lexeme words marks same_kind
-module_word = mark k.Module (codes "MODULE") refl refl (λ file start rest. record { place = record { file = file; at = start }; behind = start + 1 + 1 + 1 + 1 + 1 + 1 + 1; is = refl })
+module_word = mark k.Module (codes "MODULE") refl refl (λ file start remaining. record { span = record { file = file; at = start }; after_it = start + 1 + 1 + 1 + 1 + 1 + 1 + 1; is = refl })
 
 pub var_word : Spells (λ m. word k.Var) (λ at. Unit {0}) any (codes "VAR\n")
 unfolding first_lexeme mark_lexeme word_lexeme words marks same_kind
-var_word = mark k.Var (codes "VAR") refl refl (λ file start rest. record { place = record { file = file; at = start }; behind = start + 1 + 1 + 1 + 1; is = refl })
+var_word = mark k.Var (codes "VAR") refl refl (λ file start remaining. record { span = record { file = file; at = start }; after_it = start + 1 + 1 + 1 + 1; is = refl })
 
 pub assign_word : Spells (λ m. word k.Assign) (λ at. Unit {0}) any (codes "ASSIGN\n")
 unfolding first_lexeme mark_lexeme word_lexeme words marks same_kind
-assign_word = mark k.Assign (codes "ASSIGN") refl refl (λ file start rest. record { place = record { file = file; at = start }; behind = start + 1 + 1 + 1 + 1 + 1 + 1 + 1; is = refl })
+assign_word = mark k.Assign (codes "ASSIGN") refl refl (λ file start remaining. record { span = record { file = file; at = start }; after_it = start + 1 + 1 + 1 + 1 + 1 + 1 + 1; is = refl })
 
 pub define_word : Spells (λ m. word k.Define) (λ at. Unit {0}) any (codes "DEFINE\n")
 unfolding first_lexeme mark_lexeme word_lexeme words marks same_kind
-define_word = mark k.Define (codes "DEFINE") refl refl (λ file start rest. record { place = record { file = file; at = start }; behind = start + 1 + 1 + 1 + 1 + 1 + 1 + 1; is = refl })
+define_word = mark k.Define (codes "DEFINE") refl refl (λ file start remaining. record { span = record { file = file; at = start }; after_it = start + 1 + 1 + 1 + 1 + 1 + 1 + 1; is = refl })
 
 pub init_section_word : Spells (λ m. word k.InitSection) (λ at. Unit {0}) any (codes "INIT ")
 unfolding first_lexeme mark_lexeme word_lexeme words marks same_kind
-init_section_word = mark k.InitSection (codes "INIT") refl refl (λ file start rest. record { place = record { file = file; at = start }; behind = start + 1 + 1 + 1 + 1 + 1; is = refl })
+init_section_word = mark k.InitSection (codes "INIT") refl refl (λ file start remaining. record { span = record { file = file; at = start }; after_it = start + 1 + 1 + 1 + 1 + 1; is = refl })
 
 pub invar_word : Spells (λ m. word k.InvarSection) (λ at. Unit {0}) any (codes "INVAR ")
 unfolding first_lexeme mark_lexeme word_lexeme words marks same_kind
-invar_word = mark k.InvarSection (codes "INVAR") refl refl (λ file start rest. record { place = record { file = file; at = start }; behind = start + 1 + 1 + 1 + 1 + 1 + 1; is = refl })
+invar_word = mark k.InvarSection (codes "INVAR") refl refl (λ file start remaining. record { span = record { file = file; at = start }; after_it = start + 1 + 1 + 1 + 1 + 1 + 1; is = refl })
 
 pub trans_word : Spells (λ m. word k.TransSection) (λ at. Unit {0}) any (codes "TRANS ")
 unfolding first_lexeme mark_lexeme word_lexeme words marks same_kind
-trans_word = mark k.TransSection (codes "TRANS") refl refl (λ file start rest. record { place = record { file = file; at = start }; behind = start + 1 + 1 + 1 + 1 + 1 + 1; is = refl })
+trans_word = mark k.TransSection (codes "TRANS") refl refl (λ file start remaining. record { span = record { file = file; at = start }; after_it = start + 1 + 1 + 1 + 1 + 1 + 1; is = refl })
 
 pub invarspec_word : Spells (λ m. word k.InvarSpec) (λ at. Unit {0}) any (codes "INVARSPEC ")
 unfolding first_lexeme mark_lexeme word_lexeme words marks same_kind
-invarspec_word = mark k.InvarSpec (codes "INVARSPEC") refl refl (λ file start rest. record { place = record { file = file; at = start }; behind = start + 1 + 1 + 1 + 1 + 1 + 1 + 1 + 1 + 1 + 1; is = refl })
+invarspec_word = mark k.InvarSpec (codes "INVARSPEC") refl refl (λ file start remaining. record { span = record { file = file; at = start }; after_it = start + 1 + 1 + 1 + 1 + 1 + 1 + 1 + 1 + 1 + 1; is = refl })
 
 -- ---- blanks
 
--- behind a line feed
+-- after a line feed
 pub on_new_line : {A : Type 0} {L : ℕ → A → Tokens → Type 0} {P : A → Type 0} {ends : Bytes → Bool} {text : Bytes} → Spells L P ends text → Spells L P ends (codes "\n" ++ text)
 unfolding first_lexeme same_kind
 on_new_line x = record {
   depth = x.depth;
-  at = λ m h file start rest e. let c = x.at m h file (start + 1) rest e in record {
-    front = c.front;
-    behind = c.behind;
+  at = λ m h file start remaining e. let c = x.at m h file (start + 1) remaining e in record {
+    prefix = c.prefix;
+    after_it = c.after_it;
     value = c.value;
     split = c.split;
     reads = c.reads;
@@ -70,14 +70,14 @@ on_new_line x = record {
   };
 }
 
--- behind two spaces
+-- after two spaces
 pub indented : {A : Type 0} {L : ℕ → A → Tokens → Type 0} {P : A → Type 0} {ends : Bytes → Bool} {text : Bytes} → Spells L P ends text → Spells L P ends (codes "  " ++ text)
 unfolding first_lexeme same_kind
 indented x = record {
   depth = x.depth;
-  at = λ m h file start rest e. let c = x.at m h file (start + 1 + 1) rest e in record {
-    front = c.front;
-    behind = c.behind;
+  at = λ m h file start remaining e. let c = x.at m h file (start + 1 + 1) remaining e in record {
+    prefix = c.prefix;
+    after_it = c.after_it;
     value = c.value;
     split = c.split;
     reads = c.reads;

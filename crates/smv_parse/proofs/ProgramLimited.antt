@@ -6,12 +6,12 @@ use Rattle.smv_ast.specs.declared.program.Declared.TheVariants as declared
 use Rattle.smv_ast.specs.declared.program.Left.TheVariants as left
 use Rattle.smv_expr.specs.declared.kind.Kind.{Kind}
 use Rattle.smv_expr.specs.declared.kind.Kind.TheVariants as k
-use Rattle.smv_expr.specs.Language.{of_kind, place_of, name_of}
+use Rattle.smv_expr.specs.Language.{of_kind, span_of, name_of}
 use Rattle.smv_expr.specs.Reading.{Reader, read_many, read_name, read_word}
-use Rattle.smv_expr.specs.Limits.Limit.{NoLimit}
+use Rattle.smv_expr.specs.Limits.Limit.{AnyHeight}
 use Rattle.smv_expr.specs.ExprReaders.{first_expr}
 use Rattle.smv_expr.specs.ExprAnswer.{is_low}
-use Rattle.smv_expr.proofs.Limited.{Obeys, always_fits, all_pass, leaf_obeys, nothing_obeys, made_obeys, either_obeys, many_obeys, gather_obeys, gather_from_obeys, retested, and_true, and_and}
+use Rattle.smv_expr.proofs.Limited.{Obeys, always_fits, all_pass, leaf_obeys, nothing_obeys, mapped_obeys, either_obeys, many_obeys, gather_obeys, gather_from_obeys, retested, and_true, and_and}
 use Rattle.smv_expr.proofs.ExprLimited.{word_then, both_then, sign_obeys, up_to_obeys}
 use Rattle.smv_expr.proofs.ExprAnswering.{limited_obeys}
 use Rattle.smv_parse.specs.declared.sections.Part.{Part}
@@ -27,9 +27,9 @@ use Rattle.smv_parse.proofs.SkipRule.{skip_obeys}
 
 -- ---- lists
 
-passes_all : {A : Type 0} (test : A → Bool) (items : List A) → list_all test items ≡ all_pass test items
-passes_all test [] = refl
-passes_all test (a ∷ items) = ap (λ v. test a && v) (passes_all test items)
+list_all_passes : {A : Type 0} (test : A → Bool) (items : List A) → list_all test items ≡ all_pass test items
+list_all_passes test [] = refl
+list_all_passes test (a ∷ items) = ap (λ v. test a && v) (list_all_passes test items)
 
 all_pushed : {A : Type 0} (test : A → Bool) (items : List A) (a : A) → list_all test (items ++ a ∷ []) ≡ (list_all test items && test a)
 all_pushed test [] a = and_true (test a)
@@ -39,116 +39,116 @@ each_fits : {A : Type 0} (items : List A) → true ≡ all_pass always_fits item
 each_fits [] = refl
 each_fits (a ∷ items) = each_fits items
 
-list_obeys : {A : Type 0} {test : A → Bool} {p' p : Reader A} (set : List Kind) → Obeys test p' p → Obeys (list_all test) (read_many set p') (read_many set p)
-list_obeys {test = test} set o = retested (all_pass test) (list_all test) (passes_all test) (many_obeys set o)
+list_obeys : {A : Type 0} {any : Bool} {test : A → Bool} {p' p : Reader A} (set : List Kind) → Obeys any test p' p → Obeys any (list_all test) (read_many set p') (read_many set p)
+list_obeys {test = test} set o = retested (all_pass test) (list_all test) (list_all_passes test) (many_obeys set o)
 
 -- a list on which there are no limits
-free_list : {A : Type 0} {p' p : Reader A} (set : List Kind) → Obeys always_fits p' p → Obeys always_fits (read_many set p') (read_many set p)
+free_list : {A : Type 0} {any : Bool} {p' p : Reader A} (set : List Kind) → Obeys any always_fits p' p → Obeys any always_fits (read_many set p') (read_many set p)
 free_list set o = retested (all_pass always_fits) always_fits each_fits (many_obeys set o)
 
 -- ---- names
 
-a_name : Obeys always_fits read_name read_name
+a_name : {any : Bool} → Obeys any always_fits read_name read_name
 a_name = leaf_obeys (of_kind k.Name name_of)
 
-a_word : (kind : Kind) → Obeys always_fits (read_word kind) (read_word kind)
-a_word kind = leaf_obeys (of_kind kind place_of)
+a_word : {any : Bool} (kind : Kind) → Obeys any always_fits (read_word kind) (read_word kind)
+a_word kind = leaf_obeys (of_kind kind span_of)
 
-next_name_obeys : Obeys always_fits r.read_next_name r.read_next_name
+next_name_obeys : {any : Bool} → Obeys any always_fits r.read_next_name r.read_next_name
 unfolding r.read_next_name
-next_name_obeys = made_obeys _ _ always_fits (λ v. refl) (word_then k.Comma a_name)
+next_name_obeys = mapped_obeys _ _ always_fits (λ v. refl) (word_then k.Comma a_name)
 
-names_obeys : Obeys always_fits r.read_names r.read_names
+names_obeys : {any : Bool} → Obeys any always_fits r.read_names r.read_names
 unfolding r.read_names r.read_more_names
-names_obeys = made_obeys g.names_of _ always_fits (λ v. refl) (both_then a_name (free_list (k.Comma ∷ []) next_name_obeys))
+names_obeys = mapped_obeys g.names_of _ always_fits (λ v. refl) (both_then a_name (free_list (k.Comma ∷ []) next_name_obeys))
 
-some_formals_obeys : Obeys always_fits r.read_some_formals r.read_some_formals
+some_formals_obeys : {any : Bool} → Obeys any always_fits r.read_some_formals r.read_some_formals
 unfolding r.read_some_formals r.read_formals r.read_some_names
-some_formals_obeys = either_obeys (k.OpenParen ∷ []) (made_obeys _ _ always_fits (λ v. refl) (word_then k.OpenParen (both_then (either_obeys (k.Name ∷ []) names_obeys (nothing_obeys always_fits [] refl)) (a_word k.CloseParen)))) (nothing_obeys always_fits [] refl)
+some_formals_obeys = either_obeys (k.OpenParen ∷ []) (mapped_obeys _ _ always_fits (λ v. refl) (word_then k.OpenParen (both_then (either_obeys (k.Name ∷ []) names_obeys (nothing_obeys always_fits [] refl)) (a_word k.CloseParen)))) (nothing_obeys always_fits [] refl)
 
-pub name_in_parens_obeys : Obeys always_fits r.read_name_in_parens r.read_name_in_parens
+pub name_in_parens_obeys : {any : Bool} → Obeys any always_fits r.read_name_in_parens r.read_name_in_parens
 unfolding r.read_name_in_parens
-name_in_parens_obeys = made_obeys _ _ always_fits (λ v. refl) (word_then k.OpenParen (both_then a_name (a_word k.CloseParen)))
+name_in_parens_obeys = mapped_obeys _ _ always_fits (λ v. refl) (word_then k.OpenParen (both_then a_name (a_word k.CloseParen)))
 
-left_side_obeys : Obeys always_fits r.read_left_side r.read_left_side
+left_side_obeys : {any : Bool} → Obeys any always_fits r.read_left_side r.read_left_side
 unfolding r.read_left_side
 left_side_obeys =
-    either_obeys (k.Init ∷ []) (made_obeys (g.side_of left.Init) _ always_fits (λ v. refl) (word_then k.Init name_in_parens_obeys)) (
-    either_obeys (k.Next ∷ []) (made_obeys (g.side_of left.Next) _ always_fits (λ v. refl) (word_then k.Next name_in_parens_obeys)) (made_obeys g.bare_side_of _ always_fits (λ v. refl) a_name))
+    either_obeys (k.Init ∷ []) (mapped_obeys (g.side_of left.Init) _ always_fits (λ v. refl) (word_then k.Init name_in_parens_obeys)) (
+    either_obeys (k.Next ∷ []) (mapped_obeys (g.side_of left.Next) _ always_fits (λ v. refl) (word_then k.Next name_in_parens_obeys)) (mapped_obeys g.current_side_of _ always_fits (λ v. refl) a_name))
 
 -- ---- types
 
-pub next_sign_obeys : Obeys always_fits (r.read_next_sign the_limit) (r.read_next_sign NoLimit)
+pub next_sign_obeys : {any : Bool} → Obeys any always_fits (r.read_next_sign the_limit) (r.read_next_sign (AnyHeight any))
 unfolding r.read_next_sign
-next_sign_obeys = made_obeys _ _ always_fits (λ v. refl) (word_then k.Comma (sign_obeys true))
+next_sign_obeys = mapped_obeys _ _ always_fits (λ v. refl) (word_then k.Comma (sign_obeys _ true))
 
-numbers_obeys : Obeys always_fits (r.read_numbers the_limit) (r.read_numbers NoLimit)
+numbers_obeys : {any : Bool} → Obeys any always_fits (r.read_numbers the_limit) (r.read_numbers (AnyHeight any))
 unfolding r.read_numbers r.read_more_signs
-numbers_obeys = made_obeys _ _ always_fits (λ v. refl) (both_then (sign_obeys true) (free_list (k.Comma ∷ []) next_sign_obeys))
+numbers_obeys = mapped_obeys _ _ always_fits (λ v. refl) (both_then (sign_obeys _ true) (free_list (k.Comma ∷ []) next_sign_obeys))
 
-enumeration_obeys : Obeys always_fits (r.read_enumeration the_limit) (r.read_enumeration NoLimit)
+enumeration_obeys : {any : Bool} → Obeys any always_fits (r.read_enumeration the_limit) (r.read_enumeration (AnyHeight any))
 unfolding r.read_enumeration r.read_values
-enumeration_obeys = made_obeys _ _ always_fits (λ v. refl) (word_then k.OpenBrace (both_then (either_obeys r.first_sign numbers_obeys (made_obeys type.Symbols _ always_fits (λ v. refl) names_obeys)) (a_word k.CloseBrace)))
+enumeration_obeys = mapped_obeys _ _ always_fits (λ v. refl) (word_then k.OpenBrace (both_then (either_obeys r.first_sign numbers_obeys (mapped_obeys type.Symbols _ always_fits (λ v. refl) names_obeys)) (a_word k.CloseBrace)))
 
-type_obeys : Obeys always_fits (r.read_smv_type the_limit) (r.read_smv_type NoLimit)
+type_obeys : {any : Bool} → Obeys any always_fits (r.read_smv_type the_limit) (r.read_smv_type (AnyHeight any))
 unfolding r.read_smv_type r.read_range
 type_obeys =
-    either_obeys (k.Boolean ∷ []) (made_obeys _ _ always_fits (λ v. refl) (a_word k.Boolean)) (
-    either_obeys (k.OpenBrace ∷ []) enumeration_obeys (made_obeys _ _ always_fits (λ v. refl) (both_then (sign_obeys true) (up_to_obeys true))))
+    either_obeys (k.Boolean ∷ []) (mapped_obeys _ _ always_fits (λ v. refl) (a_word k.Boolean)) (
+    either_obeys (k.OpenBrace ∷ []) enumeration_obeys (mapped_obeys _ _ always_fits (λ v. refl) (both_then (sign_obeys _ true) (up_to_obeys _ true))))
 
 -- ---- what is declared
 
-pub next_expr_obeys : Obeys is_low (r.read_next_expr the_limit) (r.read_next_expr NoLimit)
+pub next_expr_obeys : {any : Bool} → Obeys any is_low (r.read_next_expr the_limit) (r.read_next_expr (AnyHeight any))
 unfolding r.read_next_expr
-next_expr_obeys = made_obeys _ _ is_low (λ v. refl) (word_then k.Comma limited_obeys)
+next_expr_obeys = mapped_obeys _ _ is_low (λ v. refl) (word_then k.Comma (limited_obeys _))
 
-exprs_obey : Obeys (list_all is_low) (r.read_exprs the_limit) (r.read_exprs NoLimit)
+exprs_obey : {any : Bool} → Obeys any (list_all is_low) (r.read_exprs the_limit) (r.read_exprs (AnyHeight any))
 unfolding r.read_exprs r.read_more_exprs
-exprs_obey = made_obeys _ _ (list_all is_low) (λ v. refl) (both_then limited_obeys (list_obeys (k.Comma ∷ []) next_expr_obeys))
+exprs_obey = mapped_obeys _ _ (list_all is_low) (λ v. refl) (both_then (limited_obeys _) (list_obeys (k.Comma ∷ []) next_expr_obeys))
 
-actuals_obey : Obeys (list_all is_low) (r.read_actuals the_limit) (r.read_actuals NoLimit)
+actuals_obey : {any : Bool} → Obeys any (list_all is_low) (r.read_actuals the_limit) (r.read_actuals (AnyHeight any))
 unfolding r.read_actuals r.read_some_exprs
-actuals_obey = made_obeys _ _ (list_all is_low) (λ v. sym (and_true (list_all is_low v.1.0)))
+actuals_obey = mapped_obeys _ _ (list_all is_low) (λ v. sym (and_true (list_all is_low v.1.0)))
     (word_then k.OpenParen (both_then (either_obeys first_expr exprs_obey (nothing_obeys (list_all is_low) [] refl)) (a_word k.CloseParen)))
 
-instance_obeys : Obeys low_declared (r.read_instance the_limit) (r.read_instance NoLimit)
+instance_obeys : {any : Bool} → Obeys any low_declared (r.read_instance the_limit) (r.read_instance (AnyHeight any))
 unfolding r.read_instance r.read_some_actuals
-instance_obeys = made_obeys g.instance_of _ low_declared (λ v. refl) (both_then a_name (either_obeys (k.OpenParen ∷ []) actuals_obey (nothing_obeys (list_all is_low) [] refl)))
+instance_obeys = mapped_obeys g.instance_of _ low_declared (λ v. refl) (both_then a_name (either_obeys (k.OpenParen ∷ []) actuals_obey (nothing_obeys (list_all is_low) [] refl)))
 
-declared_obeys : Obeys low_declared (r.read_declared the_limit) (r.read_declared NoLimit)
+declared_obeys : {any : Bool} → Obeys any low_declared (r.read_declared the_limit) (r.read_declared (AnyHeight any))
 unfolding r.read_declared
-declared_obeys = either_obeys r.first_type (made_obeys declared.Plain always_fits low_declared (λ v. refl) type_obeys) instance_obeys
+declared_obeys = either_obeys r.first_type (mapped_obeys declared.Plain always_fits low_declared (λ v. refl) type_obeys) instance_obeys
 
 -- ---- items
 
-pub declaration_obeys : Obeys low_declaration (r.read_declaration the_limit) (r.read_declaration NoLimit)
+pub declaration_obeys : {any : Bool} → Obeys any low_declaration (r.read_declaration the_limit) (r.read_declaration (AnyHeight any))
 unfolding r.read_declaration
-declaration_obeys = made_obeys g.declaration_of _ low_declaration (λ v. sym (and_true (low_declared v.1.1.0))) (both_then a_name (word_then k.Colon (both_then declared_obeys (a_word k.Semicolon))))
+declaration_obeys = mapped_obeys g.declaration_of _ low_declaration (λ v. sym (and_true (low_declared v.1.1.0))) (both_then a_name (word_then k.Colon (both_then declared_obeys (a_word k.Semicolon))))
 
-pub assignment_obeys : Obeys low_assignment (r.read_assignment the_limit) (r.read_assignment NoLimit)
+pub assignment_obeys : {any : Bool} → Obeys any low_assignment (r.read_assignment the_limit) (r.read_assignment (AnyHeight any))
 unfolding r.read_assignment
-assignment_obeys = made_obeys g.assignment_of _ low_assignment (λ v. sym (and_true (is_low v.1.1.0))) (both_then left_side_obeys (word_then k.Becomes (both_then limited_obeys (a_word k.Semicolon))))
+assignment_obeys = mapped_obeys g.assignment_of _ low_assignment (λ v. sym (and_true (is_low v.1.1.0))) (both_then left_side_obeys (word_then k.Becomes (both_then (limited_obeys _) (a_word k.Semicolon))))
 
-pub definition_obeys : Obeys low_definition (r.read_definition the_limit) (r.read_definition NoLimit)
+pub definition_obeys : {any : Bool} → Obeys any low_definition (r.read_definition the_limit) (r.read_definition (AnyHeight any))
 unfolding r.read_definition
-definition_obeys = made_obeys g.definition_of _ low_definition (λ v. sym (and_true (is_low v.1.1.0))) (both_then a_name (word_then k.Becomes (both_then limited_obeys (a_word k.Semicolon))))
+definition_obeys = mapped_obeys g.definition_of _ low_definition (λ v. sym (and_true (is_low v.1.1.0))) (both_then a_name (word_then k.Becomes (both_then (limited_obeys _) (a_word k.Semicolon))))
 
-constraint_obeys : (kind : Kind) → Obeys (λ p. is_low p.1) (r.read_constraint the_limit kind) (r.read_constraint NoLimit kind)
+constraint_obeys : {any : Bool} (kind : Kind) → Obeys any (λ p. is_low p.1) (r.read_constraint the_limit kind) (r.read_constraint (AnyHeight any) kind)
 unfolding r.read_constraint
-constraint_obeys kind = made_obeys _ _ (λ p. is_low p.1) (λ v. sym (and_true (is_low v.1.0)))
-    (word_then kind (both_then limited_obeys (either_obeys (k.Semicolon ∷ []) (made_obeys Some _ always_fits (λ v. refl) (a_word k.Semicolon)) (nothing_obeys always_fits None refl))))
+constraint_obeys kind = mapped_obeys _ _ (λ p. is_low p.1) (λ v. sym (and_true (is_low v.1.0)))
+    (word_then kind (both_then (limited_obeys _) (either_obeys (k.Semicolon ∷ []) (mapped_obeys Some _ always_fits (λ v. refl) (a_word k.Semicolon)) (nothing_obeys always_fits None refl))))
 
 -- ---- sections and modules
 
-section_obeys : Obeys low_section (r.read_section the_limit) (r.read_section NoLimit)
+section_obeys : {any : Bool} → Obeys any low_section (r.read_section the_limit) (r.read_section (AnyHeight any))
 unfolding r.read_section r.read_declarations r.read_assignments r.read_definitions
 section_obeys =
-    either_obeys (k.Var ∷ []) (made_obeys _ _ low_section (λ v. refl) (word_then k.Var (list_obeys (k.Name ∷ []) declaration_obeys))) (
-    either_obeys (k.Assign ∷ []) (made_obeys _ _ low_section (λ v. refl) (word_then k.Assign (list_obeys r.first_side assignment_obeys))) (
-    either_obeys (k.Define ∷ []) (made_obeys _ _ low_section (λ v. refl) (word_then k.Define (list_obeys (k.Name ∷ []) definition_obeys))) (
-    either_obeys (k.InitSection ∷ []) (made_obeys _ _ low_section (λ v. refl) (constraint_obeys k.InitSection)) (
-    either_obeys (k.InvarSection ∷ []) (made_obeys _ _ low_section (λ v. refl) (constraint_obeys k.InvarSection)) (
-    either_obeys (k.TransSection ∷ []) (made_obeys _ _ low_section (λ v. refl) (constraint_obeys k.TransSection)) (made_obeys _ _ low_section (λ v. refl) (constraint_obeys k.InvarSpec)))))))
+    either_obeys (k.Var ∷ []) (mapped_obeys _ _ low_section (λ v. refl) (word_then k.Var (list_obeys (k.Name ∷ []) declaration_obeys))) (
+    either_obeys (k.Assign ∷ []) (mapped_obeys _ _ low_section (λ v. refl) (word_then k.Assign (list_obeys r.first_side assignment_obeys))) (
+    either_obeys (k.Define ∷ []) (mapped_obeys _ _ low_section (λ v. refl) (word_then k.Define (list_obeys (k.Name ∷ []) definition_obeys))) (
+    either_obeys (k.InitSection ∷ []) (mapped_obeys _ _ low_section (λ v. refl) (constraint_obeys k.InitSection)) (
+    either_obeys (k.InvarSection ∷ []) (mapped_obeys _ _ low_section (λ v. refl) (constraint_obeys k.InvarSection)) (
+    either_obeys (k.TransSection ∷ []) (mapped_obeys _ _ low_section (λ v. refl) (constraint_obeys k.TransSection)) (mapped_obeys _ _ low_section (λ v. refl) (constraint_obeys k.InvarSpec)))))))
 
 abbrev pub low_part : Part → Bool
 low_part (part.Section s) = low_section s
@@ -157,40 +157,40 @@ low_part (part.Skipped s) = true
 abbrev pub low_parts : Parts → Bool
 low_parts parts = list_all low_section parts.sections
 
-skip_word_obeys : Obeys always_fits r.read_skip_word r.read_skip_word
+skip_word_obeys : {any : Bool} → Obeys any always_fits r.read_skip_word r.read_skip_word
 unfolding r.read_skip_word
 skip_word_obeys =
-    either_obeys (k.Spec ∷ []) (made_obeys _ _ always_fits (λ v. refl) (a_word k.Spec)) (
-    either_obeys (k.CtlSpec ∷ []) (made_obeys _ _ always_fits (λ v. refl) (a_word k.CtlSpec)) (
-    either_obeys (k.LtlSpec ∷ []) (made_obeys _ _ always_fits (λ v. refl) (a_word k.LtlSpec)) (
-    either_obeys (k.Fairness ∷ []) (made_obeys _ _ always_fits (λ v. refl) (a_word k.Fairness)) (
-    either_obeys (k.Justice ∷ []) (made_obeys _ _ always_fits (λ v. refl) (a_word k.Justice)) (made_obeys _ _ always_fits (λ v. refl) (a_word k.Compassion))))))
+    either_obeys (k.Spec ∷ []) (mapped_obeys _ _ always_fits (λ v. refl) (a_word k.Spec)) (
+    either_obeys (k.CtlSpec ∷ []) (mapped_obeys _ _ always_fits (λ v. refl) (a_word k.CtlSpec)) (
+    either_obeys (k.LtlSpec ∷ []) (mapped_obeys _ _ always_fits (λ v. refl) (a_word k.LtlSpec)) (
+    either_obeys (k.Fairness ∷ []) (mapped_obeys _ _ always_fits (λ v. refl) (a_word k.Fairness)) (
+    either_obeys (k.Justice ∷ []) (mapped_obeys _ _ always_fits (λ v. refl) (a_word k.Justice)) (mapped_obeys _ _ always_fits (λ v. refl) (a_word k.Compassion))))))
 
-pub part_obeys : Obeys low_part (r.read_part the_limit) (r.read_part NoLimit)
+pub part_obeys : {any : Bool} → Obeys any low_part (r.read_part the_limit) (r.read_part (AnyHeight any))
 unfolding r.read_part r.read_skipped
-part_obeys = either_obeys r.first_section (made_obeys part.Section low_section low_part (λ v. refl) section_obeys)
-    (made_obeys part.Skipped always_fits low_part (λ v. refl) (made_obeys _ _ always_fits (λ v. refl) (both_then skip_word_obeys skip_obeys)))
+part_obeys = either_obeys r.first_section (mapped_obeys part.Section low_section low_part (λ v. refl) section_obeys)
+    (mapped_obeys part.Skipped always_fits low_part (λ v. refl) (mapped_obeys _ _ always_fits (λ v. refl) (both_then skip_word_obeys skip_obeys)))
 
 parts_grow : (parts : Parts) (one : Part) → low_parts (g.with_part parts one) ≡ (low_parts parts && low_part one)
 parts_grow parts (part.Section s) = all_pushed low_section parts.sections s
 parts_grow parts (part.Skipped s) = sym (and_true (list_all low_section parts.sections))
 
-parts_obey : Obeys low_parts (r.read_parts the_limit) (r.read_parts NoLimit)
+parts_obey : {any : Bool} → Obeys any low_parts (r.read_parts the_limit) (r.read_parts (AnyHeight any))
 unfolding r.read_parts
 parts_obey = gather_obeys r.first_part g.with_part low_parts g.no_parts parts_grow refl part_obeys
 
 abbrev pub low_module_reading : ModuleReading → Bool
 low_module_reading m = low_module m.«module»
 
-pub module_obeys : Obeys low_module_reading (r.read_module the_limit) (r.read_module NoLimit)
+pub module_obeys : {any : Bool} → Obeys any low_module_reading (r.read_module the_limit) (r.read_module (AnyHeight any))
 unfolding r.read_module
-module_obeys = made_obeys g.module_of _ low_module_reading (λ v. refl) (word_then k.Module (both_then a_name (both_then some_formals_obeys parts_obey)))
+module_obeys = mapped_obeys g.module_of _ low_module_reading (λ v. refl) (word_then k.Module (both_then a_name (both_then some_formals_obeys parts_obey)))
 
 -- ---- models
 
 modules_grow : (reading : Reading) (m : ModuleReading) → low_reading (g.with_module reading m) ≡ (low_reading reading && low_module_reading m)
 modules_grow reading m = all_pushed low_module reading.program.modules m.«module»
 
-pub program_obeys : Obeys low_reading (r.read_program the_limit) (r.read_program NoLimit)
+pub program_obeys : {any : Bool} → Obeys any low_reading (r.read_program the_limit) (r.read_program (AnyHeight any))
 unfolding r.read_program r.read_first_module r.read_more_modules
-program_obeys = gather_from_obeys (k.Module ∷ []) g.with_module low_reading modules_grow (made_obeys g.alone low_module_reading low_reading (λ m. and_true (low_module m.«module»)) module_obeys) module_obeys
+program_obeys = gather_from_obeys (k.Module ∷ []) g.with_module low_reading modules_grow (mapped_obeys g.single_module low_module_reading low_reading (λ m. and_true (low_module m.«module»)) module_obeys) module_obeys

@@ -3,7 +3,7 @@ use Rattle.std.specs.Prelude.{ℕ, Result, Err}
 use Rattle.smv_ast.specs.declared.fault.Fault.{Fault}
 use Rattle.smv_expr.specs.Lexicon.{Bytes, tokens}
 use Rattle.smv_expr.specs.Reading.{Reader}
-use Rattle.smv_expr.specs.Answer.{Answers, Tells, IsText}
+use Rattle.smv_expr.specs.Answer.{Answers, Reports, IsText}
 use Rattle.smv_parse.specs.declared.program.Reading.{Reading}
 use Rattle.smv_parse.specs.Grammar.{program}
 use Rattle.smv_parse.specs.Readers.{the_limit, read_program}
@@ -23,4 +23,4 @@ Reads file bytes reading = IsText program low_reading (tokens file bytes) readin
 
 -- the bytes of the file are refused with this fault
 abbrev pub Refuses : ℕ → Bytes → Fault → Type 0
-Refuses file bytes f = Tells program low_reading limited_program file bytes (Err f)
+Refuses file bytes f = Reports program low_reading limited_program file bytes (Err f)

@@ -1,6 +1,6 @@
 -- The grammar of models, over the language W of their expressions. Each value is the tree that a list of tokens stands for,
--- with its places: an item's is that of its first token.
-use Rattle.std.specs.Prelude.{◌≡◌, ℕ, ℤ, false, List, [], ◌∷◌, ◌++◌, fold, codes}
+-- with its spans: an item's is that of its first token.
+use Rattle.std.specs.Prelude.{◌≡◌, ℕ, ℤ, Bool, false, List, [], ◌∷◌, ◌++◌, fold, codes}
 use Rattle.smv_ast.specs.declared.syntax.Span.{Span}
 use Rattle.smv_ast.specs.declared.syntax.Expr.{Expr}
 use Rattle.smv_ast.specs.declared.syntax.SmvType.{SmvType}
@@ -18,7 +18,7 @@ use Rattle.smv_ast.specs.declared.program.Skipped.{Skipped}
 use Rattle.smv_expr.specs.declared.kind.Kind.{Kind}
 use Rattle.smv_expr.specs.declared.kind.Kind.TheVariants as k
 use Rattle.smv_expr.specs.Lexicon.{Bytes}
-use Rattle.smv_expr.specs.Language.{Lang, Tokens, word, name, both, many, opt, either, made, nothing, has}
+use Rattle.smv_expr.specs.Language.{Lang, Tokens, word, name, both, many, opt, either, mapped, nothing, has}
 use Rattle.smv_expr.specs.ExprGrammar.{sign, up_to, expr}
 use Rattle.smv_parse.specs.declared.names.LeftSide.{LeftSide}
 use Rattle.smv_parse.specs.declared.sections.Part.{Part}
@@ -31,7 +31,7 @@ use Rattle.smv_parse.specs.declared.program.Reading.{Reading}
 
 -- , id
 abbrev pub next_name : Lang Bytes
-next_name = made (λ p. p.1.0) (both (word k.Comma) name)
+next_name = mapped (λ p. p.1.0) (both (word k.Comma) name)
 
 -- the names of a list
 abbrev pub names_of : (Bytes × Span) × List Bytes → List Bytes
@@ -39,56 +39,59 @@ names_of p = p.0.0 ∷ p.1
 
 -- id { , id }
 abbrev pub names : Lang (List Bytes)
-names = made names_of (both name (many next_name))
+names = mapped names_of (both name (many next_name))
 
 -- ( [ id { , id } ] )
 abbrev pub formals : Lang (List Bytes)
-formals = made (λ p. p.1.0) (both (word k.OpenParen) (both (either names (nothing [])) (word k.CloseParen)))
+formals = mapped (λ p. p.1.0)
+    (both (word k.OpenParen) (both (either names (nothing [])) (word k.CloseParen)))
 
 -- ---- types
 
 -- , sign
-abbrev pub next_sign : Lang ℤ
-next_sign = made (λ p. p.1) (both (word k.Comma) sign)
+abbrev pub next_sign : Bool → ℤ → Tokens → Type 0
+next_sign any = mapped (λ p. p.1) (both (word k.Comma) (sign any))
 
 -- sign { , sign }
-abbrev pub numbers : Lang SmvType
-numbers = made (λ p. type.Numbers (p.0 ∷ p.1)) (both sign (many next_sign))
+abbrev pub numbers : Bool → SmvType → Tokens → Type 0
+numbers any = mapped (λ p. type.Numbers (p.0 ∷ p.1)) (both (sign any) (many (next_sign any)))
 
 -- id { , id }
 abbrev pub symbols : Lang SmvType
-symbols = made type.Symbols names
+symbols = mapped type.Symbols names
 
 -- { sign { , sign } } | { id { , id } }
-abbrev pub enumeration : Lang SmvType
-enumeration = made (λ p. p.1.0) (both (word k.OpenBrace) (both (either numbers symbols) (word k.CloseBrace)))
+abbrev pub enumeration : Bool → SmvType → Tokens → Type 0
+enumeration any = mapped (λ p. p.1.0)
+    (both (word k.OpenBrace) (both (either (numbers any) symbols) (word k.CloseBrace)))
 
 -- sign .. sign
-abbrev pub range : Lang SmvType
-range = made (λ p. type.Range p.0 p.1) (both sign up_to)
+abbrev pub range : Bool → SmvType → Tokens → Type 0
+range any = mapped (λ p. type.Range p.0 p.1) (both (sign any) (up_to any))
 
 -- boolean | { .. } | sign .. sign
-abbrev pub smv_type : Lang SmvType
-smv_type = either (made (λ at. type.Boolean) (word k.Boolean)) (either enumeration range)
+abbrev pub smv_type : Bool → SmvType → Tokens → Type 0
+smv_type any = either (mapped (λ at. type.Boolean) (word k.Boolean)) (either (enumeration any) (range any))
 
 -- ---- left sides
 
 -- ( id )
 abbrev pub name_in_parens : Lang Bytes
-name_in_parens = made (λ p. p.1.0.0) (both (word k.OpenParen) (both name (word k.CloseParen)))
+name_in_parens = mapped (λ p. p.1.0.0) (both (word k.OpenParen) (both name (word k.CloseParen)))
 
 -- the tree of a left side, which stands at its first word
 abbrev pub side_of : Left → Span × Bytes → LeftSide
 side_of of p = record { left = of; name = p.1; at = p.0 }
 
 -- the tree of a left side that is a name alone
-abbrev pub bare_side_of : Bytes × Span → LeftSide
-bare_side_of n = record { left = left.Now; name = n.0; at = n.1 }
+abbrev pub current_side_of : Bytes × Span → LeftSide
+current_side_of n = record { left = left.Now; name = n.0; at = n.1 }
 
 -- init ( id ) | next ( id ) | id
 abbrev pub left_side : Lang LeftSide
-left_side = either (made (side_of left.Init) (both (word k.Init) name_in_parens)) (
-    either (made (side_of left.Next) (both (word k.Next) name_in_parens)) (made bare_side_of name))
+left_side = either (mapped (side_of left.Init) (both (word k.Init) name_in_parens)) (
+    either (mapped (side_of left.Next) (both (word k.Next) name_in_parens))
+    (mapped current_side_of name))
 
 -- ---- skipped text
 
@@ -111,17 +114,17 @@ skipped_as text at = record { word = text; at = at }
 -- SPEC | CTLSPEC | LTLSPEC | FAIRNESS | JUSTICE | COMPASSION
 abbrev pub skip_word : Lang Skipped
 skip_word =
-    either (made (skipped_as (codes "SPEC")) (word k.Spec)) (
-    either (made (skipped_as (codes "CTLSPEC")) (word k.CtlSpec)) (
-    either (made (skipped_as (codes "LTLSPEC")) (word k.LtlSpec)) (
-    either (made (skipped_as (codes "FAIRNESS")) (word k.Fairness)) (
-    either (made (skipped_as (codes "JUSTICE")) (word k.Justice)) (made (skipped_as (codes "COMPASSION")) (word k.Compassion))))))
+    either (mapped (skipped_as (codes "SPEC")) (word k.Spec)) (
+    either (mapped (skipped_as (codes "CTLSPEC")) (word k.CtlSpec)) (
+    either (mapped (skipped_as (codes "LTLSPEC")) (word k.LtlSpec)) (
+    either (mapped (skipped_as (codes "FAIRNESS")) (word k.Fairness)) (
+    either (mapped (skipped_as (codes "JUSTICE")) (word k.Justice)) (mapped (skipped_as (codes "COMPASSION")) (word k.Compassion))))))
 
 -- a skipped section, which stands at its word
 abbrev pub skipped : Lang Skipped
-skipped = made (λ p. p.0) (both skip_word skipped_text)
+skipped = mapped (λ p. p.0) (both skip_word skipped_text)
 
--- ---- what the parts make
+-- ---- the trees of the parts
 
 -- the tree of an instance
 abbrev pub instance_of : (Bytes × Span) × List Expr → Declared
@@ -160,78 +163,87 @@ module_of p = record {
 }
 
 -- a model of one module
-abbrev pub alone : ModuleReading → Reading
-alone m = record { program = record { modules = m.«module» ∷ [] }; skipped = m.skipped }
+abbrev pub single_module : ModuleReading → Reading
+single_module m = record { program = record { modules = m.«module» ∷ [] }; skipped = m.skipped }
 
--- the model with one more module behind the others
+-- the model with one more module after the others
 abbrev pub with_module : Reading → ModuleReading → Reading
-with_module r m = record { program = record { modules = r.program.modules ++ m.«module» ∷ [] }; skipped = r.skipped ++ m.skipped }
+with_module r m = record {
+  program = record { modules = r.program.modules ++ m.«module» ∷ [] };
+  skipped = r.skipped ++ m.skipped;
+}
 
 -- ---- sections. W stands for expressions.
 
-module _ (W : Expr → Tokens → Type 0) where
+module _ (any : Bool) (W : Expr → Tokens → Type 0) where
   -- , expr
   abbrev pub next_expr : Lang Expr
-  next_expr = made (λ p. p.1) (both (word k.Comma) W)
+  next_expr = mapped (λ p. p.1) (both (word k.Comma) W)
 
   -- expr { , expr }
   abbrev pub exprs : Lang (List Expr)
-  exprs = made (λ p. p.0 ∷ p.1) (both W (many next_expr))
+  exprs = mapped (λ p. p.0 ∷ p.1) (both W (many next_expr))
 
   -- ( [ expr { , expr } ] )
   abbrev pub actuals : Lang (List Expr)
-  actuals = made (λ p. p.1.0) (both (word k.OpenParen) (both (either exprs (nothing [])) (word k.CloseParen)))
+  actuals = mapped (λ p. p.1.0)
+      (both (word k.OpenParen) (both (either exprs (nothing [])) (word k.CloseParen)))
 
   -- id [ ( [ expr { , expr } ] ) ]
   abbrev pub instance : Lang Declared
-  instance = made instance_of (both name (either actuals (nothing [])))
+  instance = mapped instance_of (both name (either actuals (nothing [])))
 
   -- type | instance
   abbrev pub declared_as : Lang Declared
-  declared_as = either (made declared.Plain smv_type) instance
+  declared_as = either (mapped declared.Plain (smv_type any)) instance
 
   -- id : ( type | instance ) ;
   abbrev pub declaration : Lang Declaration
-  declaration = made declaration_of (both name (both (word k.Colon) (both declared_as (word k.Semicolon))))
+  declaration = mapped declaration_of
+      (both name (both (word k.Colon) (both declared_as (word k.Semicolon))))
 
   -- left side := expr ;
   abbrev pub assignment : Lang Assignment
-  assignment = made assignment_of (both left_side (both (word k.Becomes) (both W (word k.Semicolon))))
+  assignment = mapped assignment_of
+      (both left_side (both (word k.Becomes) (both W (word k.Semicolon))))
 
   -- id := expr ;
   abbrev pub definition : Lang Definition
-  definition = made definition_of (both name (both (word k.Becomes) (both W (word k.Semicolon))))
+  definition = mapped definition_of (both name (both (word k.Becomes) (both W (word k.Semicolon))))
 
   -- a word, then expr [ ; ]
   abbrev pub constraint : Kind → Span × Expr → Tokens → Type 0
-  constraint kind = made (λ p. (p.0, p.1.0)) (both (word kind) (both W (opt (word k.Semicolon))))
+  constraint kind = mapped (λ p. (p.0, p.1.0)) (both (word kind) (both W (opt (word k.Semicolon))))
 
   -- VAR { declaration } | ASSIGN { assignment } | DEFINE { definition } | ( INIT | INVAR | TRANS | INVARSPEC ) expr [ ; ]
   abbrev pub one_section : Lang Section
   one_section =
-      either (made (λ p. section.Vars p.1) (both (word k.Var) (many declaration))) (
-      either (made (λ p. section.Assigns p.1) (both (word k.Assign) (many assignment))) (
-      either (made (λ p. section.Defines p.1) (both (word k.Define) (many definition))) (
-      either (made (λ p. section.Init p.1 p.0) (constraint k.InitSection)) (
-      either (made (λ p. section.Invar p.1 p.0) (constraint k.InvarSection)) (
-      either (made (λ p. section.Trans p.1 p.0) (constraint k.TransSection)) (made (λ p. section.InvarSpec p.1 p.0) (constraint k.InvarSpec)))))))
+      either (mapped (λ p. section.Vars p.1) (both (word k.Var) (many declaration))) (
+      either (mapped (λ p. section.Assigns p.1) (both (word k.Assign) (many assignment))) (
+      either (mapped (λ p. section.Defines p.1) (both (word k.Define) (many definition))) (
+      either (mapped (λ p. section.Init p.1 p.0) (constraint k.InitSection)) (
+      either (mapped (λ p. section.Invar p.1 p.0) (constraint k.InvarSection)) (
+      either (mapped (λ p. section.Trans p.1 p.0) (constraint k.TransSection))
+      (mapped (λ p. section.InvarSpec p.1 p.0) (constraint k.InvarSpec)))))))
 
   -- a section, or one that is skipped
   abbrev pub one_part : Lang Part
-  one_part = either (made part.Section one_section) (made part.Skipped skipped)
+  one_part = either (mapped part.Section one_section) (mapped part.Skipped skipped)
 
   -- { section }
   abbrev pub all_parts : Lang Parts
-  all_parts = made parts_of (many one_part)
+  all_parts = mapped parts_of (many one_part)
 
   -- MODULE id [ ( [ id { , id } ] ) ] { section }
   abbrev pub one_module : Lang ModuleReading
-  one_module = made module_of (both (word k.Module) (both name (both (either formals (nothing [])) all_parts)))
+  one_module = mapped module_of
+      (both (word k.Module) (both name (both (either formals (nothing [])) all_parts)))
 
   -- module { module }
   abbrev pub program_of : Lang Reading
-  program_of = made (λ p. fold with_module p.0 p.1) (both (made alone one_module) (many one_module))
+  program_of = mapped (λ p. fold with_module p.0 p.1)
+      (both (mapped single_module one_module) (many one_module))
 
--- a model with fewer constructs open at one place of an expression than the number
-abbrev pub program : ℕ → Reading → Tokens → Type 0
-program m = program_of (expr m)
+-- a model with fewer constructs open at any point of an expression than the number
+abbrev pub program : Bool → ℕ → Reading → Tokens → Type 0
+program any m = program_of any (expr any m)

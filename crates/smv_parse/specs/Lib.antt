@@ -2,4 +2,4 @@ pub mod Grammar
 pub mod Readers
 pub mod Low
 pub mod Answer
-pub mod ReadingBack
+pub mod RoundTrip

@@ -11,7 +11,7 @@ use smv_expr::error::ReadError;
 use smv_expr::kind::Kind;
 use std::alloc::Global;
 
-/// The left side of an assignment: `init(name)`, `next(name)` or `name`. Its place is that of its first word.
+/// The left side of an assignment: `init(name)`, `next(name)` or `name`. Its span is that of its first word.
 #[derive(Drop)]
 pub struct LeftSide {
     pub left: Left,
@@ -19,7 +19,7 @@ pub struct LeftSide {
     pub at: Span,
 }
 
-/// A comma, and the name behind it.
+/// A comma, and the name after it.
 #[tactic(auto, unfolding(crate::specs::Readers::read_next_name))]
 fn next_name(alloc: Global, tokens: &mut Cursor<'_>) -> Result<Text, ReadError>
     ensures { Gives (spec.read_next_name tokens.old) result tokens.new }
@@ -33,7 +33,7 @@ fn more_names(alloc: Global, tokens: &mut Cursor<'_>) -> Result<List<Text>, Read
     ensures { Gives (spec.read_more_names tokens.old) result tokens.new }
 {
     let mut found = List::new(alloc);
-    'turns: while tokens.sees(Kind::Comma) {
+    'rounds: while tokens.sees(Kind::Comma) {
         let one = next_name(alloc, tokens)?;
         found.push(one)?;
     }

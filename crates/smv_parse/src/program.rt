@@ -4,11 +4,12 @@ ghost use Rattle.std.specs.Prelude.{◌≡◌, ◌<◌, ◌^◌, length, IfOk, O
 ghost use Rattle.smv_ast.specs.declared.program.Program.{Program};
 ghost use Rattle.smv_ast.specs.PrintedProgram.{printed_program};
 ghost use Rattle.smv_expr.specs.Reading.{Gives};
-ghost use Rattle.smv_parse.specs.Grammar.{alone, with_module};
+ghost use Rattle.smv_parse.specs.Grammar.{single_module, with_module};
 ghost use Rattle.smv_parse.specs.Readers as spec;
 ghost use Rattle.smv_parse.specs.Readers.{the_limit};
-ghost use Rattle.smv_parse.specs.Answer.{ProgramAnswer};
-ghost use Rattle.smv_parse.specs.ReadingBack.{PrintableProgram, ReadsBackProgram};
+ghost use Rattle.smv_parse.specs.Answer.{ProgramAnswer, Reads};
+ghost use Rattle.smv_expr.specs.Answer.{IsAnswered};
+ghost use Rattle.smv_parse.specs.RoundTrip.{PrintableProgram, IsProgramRoundTrip};
 
 use crate::names::some_formals;
 use crate::sections::{Parts, all_parts};
@@ -19,14 +20,14 @@ use smv_expr::error::ReadError;
 use smv_expr::kind::Kind;
 use std::alloc::Global;
 
-/// A model, and the sections that were passed over, in the order of the text.
+/// A model, and the sections that were skipped, in the order of the text.
 #[derive(Drop)]
 pub struct Reading {
     pub program: Program,
     pub skipped: List<Skipped>,
 }
 
-/// A module, and the sections of it that were passed over.
+/// A module, and the sections of it that were skipped.
 #[derive(Drop)]
 pub struct ModuleReading {
     pub module: Module,
@@ -35,8 +36,8 @@ pub struct ModuleReading {
 
 impl Reading {
     /// The model that is this module alone.
-    fn alone(alloc: Global, first: ModuleReading) -> Result<Reading, NoMemory>
-        ensures { IfOk result (λ r. r ≡ alone first) }
+    fn single_module(alloc: Global, first: ModuleReading) -> Result<Reading, NoMemory>
+        ensures { IfOk result (λ r. r ≡ single_module first) }
     {
         let mut modules = List::new(alloc);
         modules.push(first.module)?;
@@ -46,7 +47,7 @@ impl Reading {
         })
     }
 
-    /// Adds a module behind the others.
+    /// Adds a module after the others.
     fn push(&mut self, next: ModuleReading) -> Result<(), NoMemory>
         ensures { OnOk result (self.new ≡ with_module self.old next) }
     {
@@ -82,10 +83,10 @@ fn first_module(alloc: Global, tokens: &mut Cursor<'_>) -> Result<Reading, ReadE
     ensures { Gives (spec.read_first_module the_limit tokens.old) result tokens.new }
 {
     let first = module(alloc, tokens)?;
-    Ok(Reading::alone(alloc, first)?)
+    Ok(Reading::single_module(alloc, first)?)
 }
 
-/// The modules that come, behind those that are there.
+/// The modules that come, after those that are there.
 fn more_modules(
     alloc: Global,
     tokens: &mut Cursor<'_>,
@@ -94,7 +95,7 @@ fn more_modules(
     ensures { Gives (spec.read_more_modules the_limit first tokens.old) result tokens.new }
 {
     let mut found = first;
-    'turns: while tokens.sees(Kind::Module) {
+    'rounds: while tokens.sees(Kind::Module) {
         let one = module(alloc, tokens)?;
         found.push(one)?;
     }
@@ -110,20 +111,26 @@ fn program(alloc: Global, tokens: &mut Cursor<'_>) -> Result<Reading, ReadError>
     more_modules(alloc, tokens, first)
 }
 
-/// The model that the bytes of a file are, and its sections that are passed over.
+/// The model that the bytes of a file are, and its skipped sections. Each text within the limits is answered Ok.
 ///
-/// Else the fault at the first token with which, after the tokens before it, no text of the grammar begins; the end of
-/// the file counts as such a token. It is LeftOut where the token is a word or a mark of SMV that is left out here, and
-/// Syntax elsewhere. WideNumber comes at a numeral over 2,147,483,647 that could stand there. TooNested comes at the
-/// first token before which more than 1,000 constructs of an expression are open, or with which an expression ends whose
-/// tree is higher than 1,000. The fault of the first of these tokens is answered.
+/// The end of the file counts as a token. The errors, each at the token with which it is first met:
 ///
-/// Where the bytes are the canonical text of a printable model, the same model is answered, places left aside, or
-/// TooNested or NoMemory.
+/// - `Syntax`: no model begins with the tokens up to this one, whatever the size of its numerals. `LeftOut` where the token
+///   is a word or a mark of SMV that is left out here.
+/// - `WideNumber`: a numeral over 2,147,483,647 that a model may have there.
+/// - `TooNested`: before the token more than 1,000 constructs of an expression are open, or with it an expression ends whose
+///   tree is higher than 1,000. No model within the limits begins with the tokens up to this one, and each beginning of the
+///   text that ends before it, and is a model, is within them.
+/// - `NoMemory`: memory ran out.
+///
+/// Where the bytes are the canonical text of a printable model, the same model is answered, ignoring spans, or TooNested
+/// or NoMemory.
 pub fn read_program(alloc: Global, file: u32, bytes: &[u8]) -> Result<Reading, Fault>
     requires { length bytes.now < 2 ^ 32 }
     ensures answer { ProgramAnswer file bytes.now result }
-    ensures back { (p : Program) → PrintableProgram p → bytes.now ≡ printed_program p → ReadsBackProgram file bytes.now p result }
+    ensures complete { (r : Reading) → Reads file bytes.now r → IsAnswered r result }
+    ensures round_trip { (p : Program) → PrintableProgram p → bytes.now ≡ printed_program p
+        → IsProgramRoundTrip file bytes.now p result }
 {
     let mut tokens = Cursor::new(file, bytes);
     let found = program(alloc, &mut tokens);

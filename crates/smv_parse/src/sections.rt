@@ -20,14 +20,14 @@ use smv_expr::expr::sees_expr;
 use smv_expr::kind::Kind;
 use std::alloc::Global;
 
-/// A section of a module, or one that is passed over.
+/// A section of a module, or one that is skipped.
 #[derive(Drop)]
 pub enum Part {
     Section(Section),
     Skipped(Skipped),
 }
 
-/// The sections of a module, and those that were passed over, each in their order.
+/// The sections of a module, and those that were skipped, each in their order.
 #[derive(Drop)]
 pub struct Parts {
     pub sections: List<Section>,
@@ -44,7 +44,7 @@ impl Parts {
         }
     }
 
-    /// Adds a part behind the others of its sort.
+    /// Adds a part after the others of its sort.
     fn push(&mut self, part: Part) -> Result<(), NoMemory>
         ensures { OnOk result (self.new ≡ with_part self.old part) }
     {
@@ -56,7 +56,7 @@ impl Parts {
     }
 }
 
-/// A comma, and the expression behind it.
+/// A comma, and the expression after it.
 #[tactic(auto, unfolding(crate::specs::Readers::read_next_expr))]
 fn next_expr(alloc: Global, tokens: &mut Cursor<'_>) -> Result<Expr, ReadError>
     ensures { Gives (spec.read_next_expr the_limit tokens.old) result tokens.new }
@@ -69,7 +69,7 @@ fn more_exprs(alloc: Global, tokens: &mut Cursor<'_>) -> Result<List<Expr>, Read
     ensures { Gives (spec.read_more_exprs the_limit tokens.old) result tokens.new }
 {
     let mut found = List::new(alloc);
-    'turns: while tokens.sees(Kind::Comma) {
+    'rounds: while tokens.sees(Kind::Comma) {
         let one = next_expr(alloc, tokens)?;
         found.push(one)?;
     }
@@ -164,7 +164,7 @@ fn declarations(alloc: Global, tokens: &mut Cursor<'_>) -> Result<List<Declarati
     ensures { Gives (spec.read_declarations the_limit tokens.old) result tokens.new }
 {
     let mut found = List::new(alloc);
-    'turns: while tokens.sees(Kind::Name) {
+    'rounds: while tokens.sees(Kind::Name) {
         let one = declaration(alloc, tokens)?;
         found.push(one)?;
     }
@@ -191,7 +191,7 @@ fn assignments(alloc: Global, tokens: &mut Cursor<'_>) -> Result<List<Assignment
     ensures { Gives (spec.read_assignments the_limit tokens.old) result tokens.new }
 {
     let mut found = List::new(alloc);
-    'turns: while sees_left_side(tokens) {
+    'rounds: while sees_left_side(tokens) {
         let one = assignment(alloc, tokens)?;
         found.push(one)?;
     }
@@ -213,14 +213,14 @@ fn definitions(alloc: Global, tokens: &mut Cursor<'_>) -> Result<List<Definition
     ensures { Gives (spec.read_definitions the_limit tokens.old) result tokens.new }
 {
     let mut found = List::new(alloc);
-    'turns: while tokens.sees(Kind::Name) {
+    'rounds: while tokens.sees(Kind::Name) {
         let one = definition(alloc, tokens)?;
         found.push(one)?;
     }
     Ok(found)
 }
 
-/// A word of this kind, at its place, and the expression that it asks for.
+/// A word of this kind, with its span, and the expression that it asks for.
 #[tactic(auto, unfolding(crate::specs::Readers::read_constraint))]
 fn constraint(alloc: Global, tokens: &mut Cursor<'_>, word: Kind) -> Result<(Span, Expr), ReadError>
     ensures { Gives (spec.read_constraint the_limit word tokens.old) result tokens.new }
@@ -270,7 +270,7 @@ fn sees_section(tokens: &Cursor<'_>) -> bool
         || tokens.sees(Kind::InvarSpec)
 }
 
-/// Whether a section that is passed over may begin with what comes.
+/// Whether a section that is skipped may begin with what comes.
 fn sees_skipped(tokens: &Cursor<'_>) -> bool
     ensures { result ≡ begins spec.first_skipped tokens.now }
 {
@@ -288,7 +288,7 @@ fn sees_part(tokens: &Cursor<'_>) -> bool
     sees_section(tokens) || sees_skipped(tokens)
 }
 
-/// A section, or one that is passed over.
+/// A section, or one that is skipped.
 #[tactic(auto, unfolding(crate::specs::Readers::read_part))]
 fn one_part(alloc: Global, tokens: &mut Cursor<'_>) -> Result<Part, ReadError>
     ensures { Gives (spec.read_part the_limit tokens.old) result tokens.new }
@@ -305,7 +305,7 @@ pub fn all_parts(alloc: Global, tokens: &mut Cursor<'_>) -> Result<Parts, ReadEr
     ensures { Gives (spec.read_parts the_limit tokens.old) result tokens.new }
 {
     let mut found = Parts::new(alloc);
-    'turns: while sees_part(tokens) {
+    'rounds: while sees_part(tokens) {
         let one = one_part(alloc, tokens)?;
         found.push(one)?;
     }

@@ -1,4 +1,4 @@
-//! Sections that are passed over, and the text behind their words.
+//! Sections that are skipped, and the text after their words.
 
 ghost use Rattle.std.specs.Prelude.{◌≡◌, IfOk};
 ghost use Rattle.smv_expr.specs.Language.{begins};
@@ -76,10 +76,10 @@ fn sees_skip_end(tokens: &Cursor<'_>) -> bool
 }
 
 /// Passes over all tokens before the first that ends skipped text.
-fn pass_over(tokens: &mut Cursor<'_>)
-    ensures { tokens.new ≡ spec.behind_skipped tokens.old }
+fn skip_text(tokens: &mut Cursor<'_>)
+    ensures { tokens.new ≡ spec.after_skipped tokens.old }
 {
-    'turns: loop {
+    'rounds: loop {
         if tokens.is_at_end() || sees_skip_end(tokens) {
             return;
         }
@@ -87,12 +87,12 @@ fn pass_over(tokens: &mut Cursor<'_>)
     }
 }
 
-/// A skipped section: its word, and all behind it that belongs to no other part.
+/// A skipped section: its word, and all after it that belongs to no other part.
 #[tactic(auto, unfolding(crate::specs::Readers::read_skipped, crate::specs::Readers::read_skipped_text))]
 pub fn skipped(alloc: Global, tokens: &mut Cursor<'_>) -> Result<Skipped, ReadError>
     ensures { Gives (spec.read_skipped tokens.old) result tokens.new }
 {
     let found = skip_word(alloc, tokens)?;
-    pass_over(tokens);
+    skip_text(tokens);
     Ok(found)
 }

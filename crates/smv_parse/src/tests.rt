@@ -4,7 +4,7 @@ use std::alloc::Global;
 use std::test::Fail;
 
 /// Where the text is refused as Syntax, if it is.
-fn misfit(alloc: Global, text: &str) -> Option<u32> {
+fn syntax_fault(alloc: Global, text: &str) -> Option<u32> {
     if text.len() > 1000 {
         return None;
     }
@@ -55,7 +55,7 @@ fn offsets(rt: HostRuntime) -> Result<(), Fail> {
         ("MODULE main SPEC CHANGE", 17),
     ];
     for (text, offset) in texts {
-        assert_eq!(rt; misfit(rt.alloc(), text), Some(offset), "{text}");
+        assert_eq!(rt; syntax_fault(rt.alloc(), text), Some(offset), "{text}");
     }
     let array = "MODULE main VAR x : array 0..1 of boolean;";
     assert_eq!(rt; left_out(rt.alloc(), array), Some(20));

@@ -28,7 +28,7 @@ pub fn sees_type(tokens: &Cursor<'_>) -> bool
     tokens.sees(Kind::Boolean) || tokens.sees(Kind::OpenBrace) || sees_sign(tokens)
 }
 
-/// A comma, and the number behind it.
+/// A comma, and the number after it.
 #[tactic(auto, unfolding(crate::specs::Readers::read_next_sign))]
 fn next_sign(tokens: &mut Cursor<'_>) -> Result<i64, ReadError>
     ensures { Gives (spec.read_next_sign the_limit tokens.old) result tokens.new }
@@ -41,7 +41,7 @@ fn more_signs(alloc: Global, tokens: &mut Cursor<'_>) -> Result<List<i64>, ReadE
     ensures { Gives (spec.read_more_signs the_limit tokens.old) result tokens.new }
 {
     let mut found = List::new(alloc);
-    'turns: while tokens.sees(Kind::Comma) {
+    'rounds: while tokens.sees(Kind::Comma) {
         let one = next_sign(tokens)?;
         found.push(one)?;
     }

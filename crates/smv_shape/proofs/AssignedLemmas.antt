@@ -1,18 +1,15 @@
--- Assignments one after another.
-use Rattle.std.proofs.Common.{◌≡◌, Bool, true, false, ◌&&◌, ◌||◌, if◌then◌else◌, List, [], ◌∷◌, ◌++◌, Some, refl, ap, sym, ◌∙◌}
-use Rattle.std.proofs.lemmas.List.{map-append}
+-- The sets of left sides, and the assignments that they are built from.
+use Rattle.std.proofs.Common.{◌≡◌, Bool, true, false, ◌&&◌, ◌||◌, if◌then◌else◌, List, [], ◌∷◌, Option, Some, None, refl, ap, sym, ◌∙◌}
 use Rattle.std.specs.List.{list_any}
 use Rattle.std.specs.Str.{bytes_eq}
-use denote.Ref.{Bor}
-use Rattle.smv_ast.specs.declared.program.Assignment.{Assignment}
+use Rattle.smv_ast.specs.declared.fault.Fault.{Fault}
 use Rattle.smv_ast.specs.declared.program.Left.{Left}
 use Rattle.smv_ast.specs.declared.program.Left.TheVariants as left
 use Rattle.smv_meaning.specs.Value.{Name}
+use Rattle.smv_meaning.specs.Items.{Item, Declares, Assigns, Defines, Constrains}
+use Rattle.smv_meaning.specs.Runs.{or_else}
 use Rattle.smv_shape.specs.declared.assigned.Lefts.{Lefts}
-use Rattle.smv_shape.specs.Assigned.{pointed, clash, same_left, holds, clash_by, clashes, doubled_behind}
-
-pub pointed_push : (found : List (Bor Assignment)) (a : Bor Assignment) → pointed (found ++ a ∷ []) ≡ pointed found ++ a.now ∷ []
-pointed_push found a = map-append (λ b. b.now) found (a ∷ [])
+use Rattle.smv_shape.specs.Assigned.{clash, clashes, clash_fault, double_after, same_left, assigns, clash_by, holds}
 
 -- ---- one test of all forms, or a test of each
 
@@ -40,49 +37,54 @@ now_forms left.Init e x y z = ap (λ b. x || b) (grouped e y z) ∙ to_front e x
 now_forms left.Next e x y z = ap (λ b. x || b) (to_front e y z) ∙ to_front e x (y || z)
 now_forms left.Now e x y z = grouped e x (y || z)
 
--- the left sides that stand among assignments
-abbrev pub assigns : List Assignment → Left → Name → Bool
-assigns earlier l name = list_any (λ a. same_left a.left l && bytes_eq a.name name) earlier
+-- the left sides among items
+abbrev pub assigned : List Item → Left → Name → Bool
+assigned earlier l name = list_any (λ item. assigns item l name) earlier
 
-by_forms : (earlier : List Assignment) (l : Left) (name : Name) → clash_by (assigns earlier) l name ≡ list_any (λ b. clash b.left l && bytes_eq b.name name) earlier
+-- one more item, before others that are tested alike
+one_more : (item : Item) (held : Left → Name → Bool) (l : Left) (name : Name) → clash_by (λ k word. assigns item k word || held k word) l name ≡ clashes l name item || clash_by held l name
+one_more (Assigns k word right at) held left.Init name = init_forms k (bytes_eq word name) _ _
+one_more (Assigns k word right at) held left.Next name = next_forms k (bytes_eq word name) _ _
+one_more (Assigns k word right at) held left.Now name = now_forms k (bytes_eq word name) _ _ _
+one_more (Declares n what at) held left.Init name = refl
+one_more (Declares n what at) held left.Next name = refl
+one_more (Declares n what at) held left.Now name = refl
+one_more (Defines n right at) held left.Init name = refl
+one_more (Defines n right at) held left.Next name = refl
+one_more (Defines n right at) held left.Now name = refl
+one_more (Constrains r e at) held left.Init name = refl
+one_more (Constrains r e at) held left.Next name = refl
+one_more (Constrains r e at) held left.Now name = refl
+
+by_forms : (earlier : List Item) (l : Left) (name : Name) → clash_by (assigned earlier) l name ≡ list_any (clashes l name) earlier
 by_forms [] left.Init name = refl
 by_forms [] left.Next name = refl
 by_forms [] left.Now name = refl
-by_forms (b ∷ more) left.Init name = init_forms b.left (bytes_eq b.name name) _ _ ∙ ap (λ t. (clash b.left left.Init && bytes_eq b.name name) || t) (by_forms more left.Init name)
-by_forms (b ∷ more) left.Next name = next_forms b.left (bytes_eq b.name name) _ _ ∙ ap (λ t. (clash b.left left.Next && bytes_eq b.name name) || t) (by_forms more left.Next name)
-by_forms (b ∷ more) left.Now name = now_forms b.left (bytes_eq b.name name) _ _ _ ∙ ap (λ t. (clash b.left left.Now && bytes_eq b.name name) || t) (by_forms more left.Now name)
+by_forms (item ∷ more) l name = one_more item (assigned more) l name ∙ ap (λ b. clashes l name item || b) (by_forms more l name)
 
--- ---- the held left sides
+-- ---- the sets of left sides
 
--- the held left sides are those of these assignments
-abbrev pub Tells : Lefts → List Assignment → Type 0
-Tells lefts earlier = (l : Left) (name : Name) → holds lefts l name ≡ assigns earlier l name
+-- the sets have exactly the left sides of these items
+abbrev pub AreHeld : Lefts → List Item → Type 0
+AreHeld lefts earlier = (l : Left) (name : Name) → holds lefts l name ≡ assigned earlier l name
 
--- so they clash with the same left sides
-pub same_clash : (lefts : Lefts) (earlier : List Assignment) → Tells lefts earlier → (l : Left) (name : Name) → clash_by (holds lefts) l name ≡ clash_by (assigns earlier) l name
-same_clash lefts earlier tells left.Init name = ap (λ b. b || holds lefts left.Now name) (tells left.Init name) ∙ ap (λ b. assigns earlier left.Init name || b) (tells left.Now name)
-same_clash lefts earlier tells left.Next name = ap (λ b. b || holds lefts left.Now name) (tells left.Next name) ∙ ap (λ b. assigns earlier left.Next name || b) (tells left.Now name)
-same_clash lefts earlier tells left.Now name = ap (λ b. b || (holds lefts left.Init name || holds lefts left.Next name)) (tells left.Now name)
-    ∙ ap (λ b. assigns earlier left.Now name || (b || holds lefts left.Next name)) (tells left.Init name)
-    ∙ ap (λ b. assigns earlier left.Now name || (assigns earlier left.Init name || b)) (tells left.Next name)
+clash_same : (f g : Left → Name → Bool) → ((l : Left) (name : Name) → f l name ≡ g l name) → (l : Left) (name : Name) → clash_by f l name ≡ clash_by g l name
+clash_same f g same left.Init name = rw (same left.Init name, same left.Now name) refl
+clash_same f g same left.Next name = rw (same left.Next name, same left.Now name) refl
+clash_same f g same left.Now name = rw (same left.Init name, same left.Next name, same left.Now name) refl
 
--- one more that may stand
-pub passed : (earlier : List Assignment) (a : Assignment) (more : List Assignment) → clashes earlier a ≡ false → doubled_behind earlier (a ∷ more) ≡ doubled_behind (a ∷ earlier) more
-passed earlier a more free = ap (λ b. if b then Some a else doubled_behind (a ∷ earlier) more) free
+fault_same : (f g : Left → Name → Bool) → ((l : Left) (name : Name) → f l name ≡ g l name) → (item : Item) → clash_fault f item ≡ clash_fault g item
+fault_same f g same (Assigns l name right at) = rw (same l name) refl
+fault_same f g same (Declares name what at) = refl
+fault_same f g same (Defines name right at) = refl
+fault_same f g same (Constrains r e at) = refl
 
--- the first that may not
-pub stopped : (earlier : List Assignment) (a : Assignment) (more : List Assignment) → clashes earlier a ≡ true → doubled_behind earlier (a ∷ more) ≡ Some a
-stopped earlier a more found = ap (λ b. if b then Some a else doubled_behind (a ∷ earlier) more) found
+-- the fault of the next item, by the sets of left sides
+pub next_fault : (lefts : Lefts) (earlier : List Item) → AreHeld lefts earlier → (item : Item) (more : List Item) → double_after earlier (item ∷ more) ≡ or_else (clash_fault (clash_by (holds lefts)) item) (double_after (item ∷ earlier) more)
+next_fault lefts earlier held item more =
+    ap (λ o. or_else o (double_after (item ∷ earlier) more))
+    (fault_same (λ l name. list_any (clashes l name) earlier) (clash_by (holds lefts)) (λ l name. sym (clash_same (holds lefts) (assigned earlier) held l name ∙ by_forms earlier l name)) item)
 
--- whether one may not stand, as it is asked of the held left sides
-pub verdict : (lefts : Lefts) (earlier : List Assignment) → Tells lefts earlier → (a : Assignment) (name : Name) (b : Bool) → name ≡ a.name
-    → b ≡ clash_by (holds lefts) a.left name → clashes earlier a ≡ b
-verdict lefts earlier tells a name b named told =
-    sym (by_forms earlier a.left a.name) ∙ ap (λ n. clash_by (assigns earlier) a.left n) (sym named) ∙ sym (same_clash lefts earlier tells a.left name) ∙ sym told
-
--- one more is held
-pub tells_more : (lefts after : Lefts) (earlier : List Assignment) (a : Assignment) (name : Name) → name ≡ a.name
-    → ((l : Left) (word : Name) → holds after l word ≡ ((same_left a.left l && bytes_eq name word) || holds lefts l word)) → Tells lefts earlier → Tells after (a ∷ earlier)
-tells_more lefts after earlier a name named added tells = λ l word.
-    added l word ∙ ap (λ n. (same_left a.left l && bytes_eq n word) || holds lefts l word) named
-    ∙ ap (λ b. (same_left a.left l && bytes_eq a.name word) || b) (tells l word)
+-- one more left side is inserted
+pub held_more : (lefts after : Lefts) (earlier : List Item) (item : Item) → ((l : Left) (name : Name) → holds after l name ≡ assigns item l name || holds lefts l name) → AreHeld lefts earlier → AreHeld after (item ∷ earlier)
+held_more lefts after earlier item added held = λ l name. added l name ∙ ap (λ b. assigns item l name || b) (held l name)

@@ -1,3 +1,3 @@
 pub mod NameLemmas
 pub mod AssignedLemmas
-pub mod CheckLemmas
+pub mod NextLaw

@@ -1,4 +1,4 @@
--- A set of names after one was put in or taken out.
+-- A set of names, after an insertion or a removal.
 use Rattle.std.proofs.Common.{◌≡◌, ℕ, List, Bool, cond}
 use Rattle.std.specs.Str.{bytes_eq}
 use Rattle.std.specs.HashSet.{UpdatesBy}

@@ -1,20 +1,21 @@
--- Where choices stand: a free choice is a right side, or a branch's value of a case that stands there, or so nested.
+-- Positions of choices: a free choice is a right side, or the value of a branch of a case in such a
+-- position.
 use Rattle.std.specs.Prelude.{Bool, true, false, ◌||◌, if◌then◌else◌}
 use Rattle.std.specs.List.{list_any}
 use Rattle.smv_ast.specs.declared.syntax.Expr.{Expr, fold-Expr, Expr-F}
 use Rattle.smv_ast.specs.declared.syntax.Choice.{Choice, fold-Choice, Choice-F}
 use Rattle.smv_ast.specs.declared.syntax.Branch.{Branch, fold-Branch, Branch-F}
 
--- whether a free choice is out of place in an expression, if it may or may not be one itself
+-- whether an expression has a misplaced free choice, given whether it may be one itself
 abbrev pub Placed : Type 0
 Placed = Bool → Bool
 
--- no part of a choice, behind `in` or free, may be a free choice
+-- the parts of a choice, after `in` or free, may not be free choices
 abbrev pub choice_layer : Choice-F Bool Placed Placed → Bool
 choice_layer (Choice-F.Each parts) = list_any (λ part. part false) parts
 choice_layer (Choice-F.Between low high) = false
 
--- a case hands its leave on to its branches; no other part of an expression may be a free choice
+-- the branches of a case may be free choices where the case may; no other part of an expression may
 abbrev pub expr_layer : Expr-F Bool Placed Placed → Placed
 expr_layer Expr-F.True allowed = false
 expr_layer Expr-F.False allowed = false
@@ -28,18 +29,18 @@ expr_layer (Expr-F.Cases branches) allowed = list_any (λ branch. branch allowed
 expr_layer (Expr-F.Next a) allowed = a false
 expr_layer (Expr-F.Pick choice) allowed = if allowed then choice else true
 
--- the value of a branch has the leave of its case, the condition has none
+-- the value of a branch may be a free choice where its case may, the condition may not
 abbrev pub branch_layer : Branch-F Bool Placed Placed → Placed
 branch_layer branch allowed = branch.cond false || branch.value allowed
 
--- whether a free choice is out of place in an expression, if it may or may not be one itself
+-- whether an expression has a misplaced free choice, given whether it may be one itself
 abbrev pub has_stray_choice : Expr → Bool → Bool
 has_stray_choice = fold-Expr Bool Placed Placed choice_layer expr_layer branch_layer
 
--- whether a part of a choice holds a free choice
+-- whether a part of a choice contains a free choice
 abbrev pub choice_has_stray : Choice → Bool
 choice_has_stray = fold-Choice Bool Placed Placed choice_layer expr_layer branch_layer
 
--- the same as of an expression, of a branch
+-- whether a branch has a misplaced free choice
 abbrev pub branch_has_stray : Branch → Bool → Bool
 branch_has_stray = fold-Branch Bool Placed Placed choice_layer expr_layer branch_layer

@@ -1,4 +1,4 @@
--- Sets of names that stand elsewhere.
+-- Sets of borrowed names.
 use Rattle.std.specs.Prelude.{ℕ, Bool, List}
 use Rattle.std.specs.Str.{bytes_eq}
 use Rattle.std.specs.HashSet.{HashSet, contains_by}
@@ -6,7 +6,7 @@ use Rattle.std.specs.declared.hash.FoldHasher.{FoldHasher}
 use Rattle.std.specs.declared.hash.BuildHasherDefault.{BuildHasherDefault}
 use denote.Ref.{Bor}
 
--- a set of names that stand elsewhere
+-- a set of borrowed names
 abbrev pub Names : Type 0
 Names = HashSet (Bor (List ℕ)) (BuildHasherDefault FoldHasher)
 

@@ -1,20 +1,20 @@
--- Where `next` stands: `next(e)` may stand only where steps are spoken of, and its `e` holds no `next`.
+-- Positions of `next`: `next(e)` stands only in steps, and `e` contains no `next`.
 use Rattle.std.specs.Prelude.{Bool, true, false, ◌||◌, if◌then◌else◌}
 use Rattle.std.specs.List.{list_any}
 use Rattle.smv_ast.specs.declared.syntax.Expr.{Expr, fold-Expr, Expr-F}
 use Rattle.smv_ast.specs.declared.syntax.Choice.{Choice, fold-Choice, Choice-F}
 use Rattle.smv_ast.specs.declared.syntax.Branch.{Branch, fold-Branch, Branch-F}
 
--- whether a `next` is out of place in an expression that may or may not hold some
+-- whether an expression has a misplaced `next`, given whether it may contain one
 abbrev pub Placed : Type 0
 Placed = Bool → Bool
 
--- the parts of a choice have its leave
+-- the parts of a choice may contain `next` where the choice may
 abbrev pub choice_layer : Choice-F Placed Placed Placed → Placed
 choice_layer (Choice-F.Each parts) allowed = list_any (λ part. part allowed) parts
 choice_layer (Choice-F.Between low high) allowed = false
 
--- an expression hands its leave on to its parts, but within `next` there is none
+-- the parts of an expression may contain `next` where it may, but not within `next`
 abbrev pub expr_layer : Expr-F Placed Placed Placed → Placed
 expr_layer Expr-F.True allowed = false
 expr_layer Expr-F.False allowed = false
@@ -28,18 +28,18 @@ expr_layer (Expr-F.Cases branches) allowed = list_any (λ branch. branch allowed
 expr_layer (Expr-F.Next a) allowed = if allowed then a false else true
 expr_layer (Expr-F.Pick choice) allowed = choice allowed
 
--- both parts of a branch have its leave
+-- both parts of a branch may contain `next` where the branch may
 abbrev pub branch_layer : Branch-F Placed Placed Placed → Placed
 branch_layer branch allowed = branch.cond allowed || branch.value allowed
 
--- whether a `next` is out of place in an expression that may or may not hold some
+-- whether an expression has a misplaced `next`, given whether it may contain one
 abbrev pub has_stray_next : Expr → Bool → Bool
 has_stray_next = fold-Expr Placed Placed Placed choice_layer expr_layer branch_layer
 
--- the same of a choice
+-- whether a choice has a misplaced `next`
 abbrev pub choice_has_stray : Choice → Bool → Bool
 choice_has_stray = fold-Choice Placed Placed Placed choice_layer expr_layer branch_layer
 
--- the same of a branch
+-- whether a branch has a misplaced `next`
 abbrev pub branch_has_stray : Branch → Bool → Bool
 branch_has_stray = fold-Branch Placed Placed Placed choice_layer expr_layer branch_layer

@@ -1,109 +1,96 @@
 //! Left sides of assignments.
 
-ghost use Rattle.std.specs.Prelude.{◌≡◌, ◌++◌, ◌&&◌, ◌||◌, [], List, ℕ, IfOk, OnOk, find, false};
-ghost use Rattle.std.specs.Option.{option_copied};
+ghost use Rattle.std.specs.Prelude.{◌≡◌, ◌&&◌, ◌||◌, [], List, ℕ, IfOk, OnOk, false};
 ghost use Rattle.std.specs.Str.{bytes_eq};
 ghost use Rattle.smv_ast.specs.declared.program.Left.{Left as LeftSide};
-ghost use Rattle.smv_meaning.specs.Entries.{all_seen, meaning_seen, meaning_among};
-ghost use Rattle.smv_meaning.specs.Runs.{first_some};
+ghost use Rattle.smv_meaning.specs.Entries.{entries_view, entity_view, entity_among};
+ghost use Rattle.smv_meaning.specs.Faults.{ReportsFirst};
+ghost use Rattle.smv_meaning.specs.Items.{item_view, items_view};
 ghost use Rattle.smv_shape.specs.Names.{in_set};
 ghost use Rattle.smv_shape.specs.Assigned as spec;
 
 use crate::names::{has, put};
-use smv_ast::{Assignment, Left, Module, NoMemory, Program, Section};
-use smv_meaning::entries::{Entry, Meaning, entries_of};
-use std::alloc::{AllocError, Global};
+use smv_ast::{Fault, Left, Module, NoMemory, Program};
+use smv_meaning::entries::{Entity, Entry, entries_of};
+use smv_meaning::items::{Item, items_of};
+use smv_meaning::rules::{ItemRule, check_items};
+use std::alloc::Global;
 use std::collections::HashSet;
 
-#[tactic(auto, using(crate::proofs::AssignedLemmas::pointed_push))]
-fn push_assignments<'a>(
-    found: &mut Vec<&'a Assignment>,
-    section: &'a Section,
-) -> Result<(), AllocError>
-    ensures { OnOk result (spec.pointed found.new.items
-        ≡ spec.pointed found.old.items ++ spec.assignments_of section.now) }
+/// Whether a name with this entity is no variable.
+fn is_fixed(entity: &Entity) -> bool
+    ensures { result ≡ spec.is_fixed (entity_view entity.now) }
 {
-    let Section::Assigns(assignments) = section else {
-        return Ok(());
-    };
-    for assignment in assignments.as_slice() {
-        found.push(assignment)?;
-    }
-    Ok(())
-}
-
-/// The assignments of a module, in the order of the text.
-fn assignments_of(alloc: Global, owner: &Module) -> Result<Vec<&Assignment>, NoMemory>
-    ensures { IfOk result (λ found. spec.pointed found.items ≡ spec.assignments owner.now) }
-{
-    let mut found = Vec::new(alloc);
-    for section in owner.sections.as_slice() {
-        push_assignments(&mut found, section)?;
-    }
-    Ok(found)
-}
-
-/// Whether a name that stands for this is no variable.
-fn is_fixed(meaning: &Meaning) -> bool
-    ensures { result ≡ spec.fixed (meaning_seen meaning.now) }
-{
-    match meaning {
-        Meaning::Variable(_) => false,
+    match entity {
+        Entity::Variable(_) => false,
         _ => true,
     }
 }
 
-/// The names among these entries that are no variables.
+/// The set of these entries' names that are no variables.
 fn fixed_names<'a>(alloc: Global, entries: &[Entry<'a>]) -> Result<HashSet<&'a str>, NoMemory>
     ensures { IfOk result (λ names. (name : List ℕ) → in_set names name
-        ≡ spec.is_fixed (meaning_among (all_seen entries.now) name)) }
+        ≡ spec.is_fixed_name (entity_among (entries_view entries.now) name)) }
 {
     let mut names = HashSet::new(alloc);
     let mut left = entries.len();
-    // The first entry of a name counts, so it is put in last.
+    // The first entry of a name takes precedence, so it is inserted last.
     while left > 0 {
         left -= 1;
         let entry = entries[left];
-        put(&mut names, entry.name.as_str(), is_fixed(&entry.meaning))?;
+        put(&mut names, entry.name.as_str(), is_fixed(&entry.entity))?;
     }
     Ok(names)
 }
 
-/// The first of these assignments that has one of these names.
-fn first_named<'a>(names: &HashSet<&str>, assignments: &[&'a Assignment]) -> Option<&'a Assignment>
-    ensures { option_copied result ≡ find (λ a. in_set names.now a.name) (spec.pointed assignments.now) }
-{
-    for assignment in assignments {
-        if has(names, assignment.name.as_str()) {
-            return Some(assignment);
-        }
-    }
-    None
+/// The rule that no assignment is to one of these names.
+#[derive(Drop)]
+struct NoTarget<'a> {
+    names: HashSet<&'a str>,
 }
 
-fn wrong_target(alloc: Global, owner: &Module) -> Result<Option<&Assignment>, NoMemory>
-    ensures { IfOk result (λ found. option_copied found ≡ spec.wrong_target owner.now) }
+impl<'a> ItemRule<Fault> for NoTarget<'a> {
+    ghost use Rattle.smv_shape.specs.Names.{in_set};
+    ghost use Rattle.smv_shape.specs.Assigned.{target_fault};
+
+    ghost reports = { λ me. target_fault (in_set me.names) };
+
+    fn judge(&self, alloc: Global, item: Item) -> Result<Option<Fault>, NoMemory> {
+        match item {
+            Item::Assignment(assignment) => {
+                if has(&self.names, assignment.name.as_str()) {
+                    return Ok(Some(Fault::ParameterAssign {
+                        at: Some(assignment.at),
+                        name: assignment.name.try_clone(alloc)?,
+                    }));
+                }
+                Ok(None)
+            }
+            _ => Ok(None),
+        }
+    }
+}
+
+fn check_targets_of(alloc: Global, owner: &Module) -> Result<(), Fault>
+    ensures { ReportsFirst (spec.target_within owner.now) result }
 {
     let entries = entries_of(alloc, owner)?;
     let names = fixed_names(alloc, entries.as_slice())?;
-    let assignments = assignments_of(alloc, owner)?;
-    Ok(first_named(&names, assignments.as_slice()))
+    let items = items_of(alloc, owner)?;
+    check_items(alloc, &NoTarget { names }, items.as_slice())
 }
 
-/// The first assignment of the program to a formal, a DEFINE or an instance of its module.
-pub fn first_wrong_target(alloc: Global, program: &Program) -> Result<Option<&Assignment>, NoMemory>
-    ensures { IfOk result (λ found. option_copied found ≡ first_some spec.wrong_target program.now.modules) }
+/// The first assignment of the program whose left side is a formal, a definition or an instance.
+pub fn check_targets(alloc: Global, program: &Program) -> Result<(), Fault>
+    ensures { ReportsFirst (spec.parameter_fault program.now) result }
 {
     for owner in program.modules.as_slice() {
-        match wrong_target(alloc, owner)? {
-            Some(assignment) => return Ok(Some(assignment)),
-            None => {}
-        }
+        check_targets_of(alloc, owner)?;
     }
-    Ok(None)
+    Ok(())
 }
 
-/// The names that have left sides, by their forms.
+/// The names with left sides, by form of the left side.
 #[derive(Drop)]
 struct Lefts<'a> {
     first: HashSet<&'a str>,
@@ -122,7 +109,7 @@ impl<'a> Lefts<'a> {
         }
     }
 
-    /// Whether a left side may not stand beside these.
+    /// Whether a left side clashes with one of these.
     fn clash(&self, left: Left, name: &str) -> bool
         ensures { result ≡ spec.clash_by (spec.holds self.now) left name.now }
     {
@@ -135,9 +122,29 @@ impl<'a> Lefts<'a> {
         }
     }
 
+    /// The fault of an assignment that clashes with one of these.
+    fn fault(&self, alloc: Global, item: Item) -> Result<Option<Fault>, NoMemory>
+        ensures { IfOk result (λ fault. fault
+            ≡ spec.clash_fault (spec.clash_by (spec.holds self.now)) (item_view item.entry)) }
+    {
+        match item {
+            Item::Assignment(assignment) => {
+                if self.clash(assignment.left, assignment.name.as_str()) {
+                    return Ok(Some(Fault::DoubleAssign {
+                        at: Some(assignment.at),
+                        name: assignment.name.try_clone(alloc)?,
+                    }));
+                }
+                Ok(None)
+            }
+            _ => Ok(None),
+        }
+    }
+
     fn add(&mut self, left: Left, name: &'a str) -> Result<(), NoMemory>
         ensures { OnOk result ((other : LeftSide) (word : List ℕ) → spec.holds self.new other word
-            ≡ ((spec.same_left left other && bytes_eq name.now word) || spec.holds self.old other word)) }
+            ≡ ((spec.same_left left other && bytes_eq name.now word)
+            || spec.holds self.old other word)) }
     {
         match left {
             Left::Init => put(&mut self.first, name, true),
@@ -145,41 +152,50 @@ impl<'a> Lefts<'a> {
             Left::Now => put(&mut self.each, name, true),
         }
     }
+
+    /// Inserts the left side of an assignment.
+    fn add_item(&mut self, item: Item<'a>) -> Result<(), NoMemory>
+        ensures { OnOk result ((other : LeftSide) (word : List ℕ) → spec.holds self.new other word
+            ≡ (spec.assigns (item_view item.entry) other word || spec.holds self.old other word)) }
+    {
+        match item {
+            Item::Assignment(assignment) => {
+                self.add(assignment.left, assignment.name.as_str())?;
+                Ok(())
+            }
+            _ => Ok(()),
+        }
+    }
 }
 
-/// The first of these assignments that may not stand behind those before it.
-fn doubled<'a>(
-    alloc: Global,
-    assignments: &[&'a Assignment],
-) -> Result<Option<&'a Assignment>, NoMemory>
-    ensures { IfOk result (λ found. option_copied found ≡ spec.doubled_behind [] (spec.pointed assignments.now)) }
+/// The first of these items that clashes with an earlier one.
+fn check_double(alloc: Global, items: &[Item]) -> Result<(), Fault>
+    ensures { ReportsFirst (spec.double_after [] (items_view items.now)) result }
 {
     let mut lefts = Lefts::new(alloc);
-    for assignment in assignments {
-        if lefts.clash(assignment.left, assignment.name.as_str()) {
-            return Ok(Some(assignment));
-        }
-        lefts.add(assignment.left, assignment.name.as_str())?;
-    }
-    Ok(None)
-}
-
-fn doubled_in(alloc: Global, owner: &Module) -> Result<Option<&Assignment>, NoMemory>
-    ensures { IfOk result (λ found. option_copied found ≡ spec.doubled owner.now) }
-{
-    let assignments = assignments_of(alloc, owner)?;
-    doubled(alloc, assignments.as_slice())
-}
-
-/// The first assignment of the program that may not stand behind those before it in its module.
-pub fn first_doubled(alloc: Global, program: &Program) -> Result<Option<&Assignment>, NoMemory>
-    ensures { IfOk result (λ found. option_copied found ≡ first_some spec.doubled program.now.modules) }
-{
-    for owner in program.modules.as_slice() {
-        match doubled_in(alloc, owner)? {
-            Some(assignment) => return Ok(Some(assignment)),
+    for item in items {
+        match lefts.fault(alloc, *item)? {
+            Some(fault) => return Err(fault),
             None => {}
         }
+        lefts.add_item(*item)?;
     }
-    Ok(None)
+    Ok(())
+}
+
+fn check_doubles_of(alloc: Global, owner: &Module) -> Result<(), Fault>
+    ensures { ReportsFirst (spec.double_within owner.now) result }
+{
+    let items = items_of(alloc, owner)?;
+    check_double(alloc, items.as_slice())
+}
+
+/// The first assignment of the program that clashes with an earlier one of its module.
+pub fn check_doubles(alloc: Global, program: &Program) -> Result<(), Fault>
+    ensures { ReportsFirst (spec.double_fault program.now) result }
+{
+    for owner in program.modules.as_slice() {
+        check_doubles_of(alloc, owner)?;
+    }
+    Ok(())
 }

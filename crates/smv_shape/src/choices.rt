@@ -1,4 +1,4 @@
-//! Where free choices stand.
+//! Misplaced free choices.
 
 ghost use Rattle.std.specs.Prelude.{◌≡◌, false, map};
 ghost use Rattle.std.specs.List.{list_any};
@@ -20,7 +20,8 @@ fn any_part(parts: &[Expr]) -> bool
 
 #[cycle(choices)]
 fn any_branch(branches: &[Branch], allowed: bool) -> bool
-    ensures { result ≡ list_any (λ branch. branch allowed) (map spec.branch_has_stray branches.now) }
+    ensures { result ≡ list_any (λ branch. branch allowed)
+        (map spec.branch_has_stray branches.now) }
 {
     for branch in branches {
         if has_stray_choice(&branch.cond, false) || has_stray_choice(&branch.value, allowed) {
@@ -40,7 +41,7 @@ fn choice_has_stray(choice: &Choice) -> bool
     }
 }
 
-/// Whether a free choice is out of place in the expression, if it may be one itself or may not.
+/// Whether the expression has a misplaced free choice; `allowed` where it may be one itself.
 #[cycle(choices)]
 pub fn has_stray_choice(e: &Expr, allowed: bool) -> bool
     ensures { result ≡ spec.has_stray_choice e.now allowed }

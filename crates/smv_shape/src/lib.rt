@@ -1,5 +1,5 @@
-//! The rules of models that look at the text alone: ends of intervals, left sides of assignments, and
-//! where choices and `next` stand.
+//! The checks of a model's text alone: ends of intervals, left sides of assignments, and positions
+//! of choices and `next`.
 #![tactic(auto)]
 
 mod assigned;

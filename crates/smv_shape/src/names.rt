@@ -7,7 +7,7 @@ ghost use Rattle.smv_shape.specs.Names as spec;
 use smv_ast::NoMemory;
 use std::collections::HashSet;
 
-/// Puts a name into the set, or takes it out.
+/// Inserts a name into the set, or removes it.
 #[tactic(auto, using(crate::proofs::NameLemmas::after_update))]
 pub fn put<'a>(names: &mut HashSet<&'a str>, name: &'a str, within: bool) -> Result<(), NoMemory>
     ensures { OnOk result ((other : List ℕ) → spec.in_set names.new other

@@ -1,4 +1,4 @@
-//! Where `next` stands.
+//! Misplaced `next`.
 
 ghost use Rattle.std.specs.Prelude.{◌≡◌, map};
 ghost use Rattle.std.specs.List.{list_any};
@@ -20,7 +20,8 @@ fn any_part(parts: &[Expr], allowed: bool) -> bool
 
 #[cycle(nexts)]
 fn any_branch(branches: &[Branch], allowed: bool) -> bool
-    ensures { result ≡ list_any (λ branch. branch allowed) (map spec.branch_has_stray branches.now) }
+    ensures { result ≡ list_any (λ branch. branch allowed)
+        (map spec.branch_has_stray branches.now) }
 {
     for branch in branches {
         if has_stray_next(&branch.cond, allowed) || has_stray_next(&branch.value, allowed) {
@@ -40,7 +41,7 @@ fn choice_has_stray(choice: &Choice, allowed: bool) -> bool
     }
 }
 
-/// Whether a `next` is out of place in the expression, which may hold some or may not.
+/// Whether the expression has a misplaced `next`; `allowed` where it may contain `next`.
 #[cycle(nexts)]
 pub fn has_stray_next(e: &Expr, allowed: bool) -> bool
     ensures { result ≡ spec.has_stray_next e.now allowed }

@@ -1,16 +1,26 @@
-//! Intervals without a number.
+//! Empty intervals.
 
 ghost use Rattle.std.specs.Prelude.{◌≡◌, map};
 ghost use Rattle.std.specs.List.{list_any};
 ghost use Rattle.smv_shape.specs.Ranges as spec;
 
-use smv_ast::{Branch, Choice, Expr};
+use smv_ast::{Branch, Choice, Expr, SmvType};
 
-/// Whether no number lies from `low` up to `high`.
-pub fn is_empty(low: i64, high: i64) -> bool
+/// Whether `low..high` is empty.
+fn is_empty(low: i64, high: i64) -> bool
     ensures { result ≡ spec.is_empty low high }
 {
     high < low
+}
+
+/// Whether the type is an empty interval.
+pub fn is_empty_type(type_: &SmvType) -> bool
+    ensures { result ≡ spec.empty_type type_.now }
+{
+    match type_ {
+        SmvType::Range { low, high } => is_empty(*low, *high),
+        _ => false,
+    }
 }
 
 #[cycle(ranges)]
@@ -47,7 +57,7 @@ fn choice_has_empty(choice: &Choice) -> bool
     }
 }
 
-/// Whether `low..high` with `low` above `high` stands anywhere in the expression.
+/// Whether the expression contains an empty interval.
 #[cycle(ranges)]
 pub fn has_empty(e: &Expr) -> bool
     ensures { result ≡ spec.has_empty e.now }

@@ -1,11 +1,11 @@
-//! The rules of the text, on texts of one section.
+//! The rules of the text, on modules of one section.
 
 use crate::check_shape;
 use smv_ast::{Boxed, Choice, Expr, Fault, List, Module, NoMemory, Program, Section, Span, Text};
 use std::alloc::Global;
 use std::test::Fail;
 
-fn place(at: u32) -> Span {
+fn span(at: u32) -> Span {
     Span { file: 0, at }
 }
 
@@ -18,7 +18,7 @@ fn program(alloc: Global, section: Section) -> Result<Program, NoMemory> {
         name: Text::from_str(alloc, "main")?,
         formals: List::new(alloc),
         sections,
-        at: place(0),
+        at: span(0),
     })?;
     Ok(Program { modules })
 }
@@ -32,9 +32,9 @@ fn within(alloc: Global, low: i64, high: i64) -> Result<Expr, NoMemory> {
 #[test]
 fn an_interval_of_one_number(rt: HostRuntime) -> Result<(), Fail> {
     let alloc = rt.alloc();
-    let whole = program(alloc, Section::Invar(within(alloc, 2, 2)?, place(12)))?;
+    let whole = program(alloc, Section::Invar(within(alloc, 2, 2)?, span(12)))?;
     assert!(rt; check_shape(alloc, &whole).is_ok());
-    let empty = program(alloc, Section::Invar(within(alloc, 2, 1)?, place(12)))?;
+    let empty = program(alloc, Section::Invar(within(alloc, 2, 1)?, span(12)))?;
     assert!(rt; matches!(check_shape(alloc, &empty), Err(Fault::EmptyRange { .. })));
     Ok(())
 }
@@ -43,10 +43,10 @@ fn an_interval_of_one_number(rt: HostRuntime) -> Result<(), Fail> {
 fn next_outside_steps(rt: HostRuntime) -> Result<(), Fail> {
     let alloc = rt.alloc();
     let later = Expr::Next(Boxed::new(alloc, Expr::True)?);
-    let stray = program(alloc, Section::Invar(later, place(12)))?;
+    let stray = program(alloc, Section::Invar(later, span(12)))?;
     assert!(rt; matches!(check_shape(alloc, &stray), Err(Fault::NextPlace { .. })));
     let later = Expr::Next(Boxed::new(alloc, Expr::True)?);
-    let whole = program(alloc, Section::Trans(later, place(12)))?;
+    let whole = program(alloc, Section::Trans(later, span(12)))?;
     assert!(rt; check_shape(alloc, &whole).is_ok());
     Ok(())
 }

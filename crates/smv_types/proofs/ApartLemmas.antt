@@ -1,4 +1,4 @@
--- Lists in which no element stands twice.
+-- Lists without duplicates.
 use Rattle.std.proofs.Common.{◌≡◌, ◌≢◌, ℕ, suc, ◌<◌, ◌⊎◌, inl, inr, List, [], ◌∷◌, ◌++◌, length, map, refl, sym, ap, ◌∙◌, subst, eqb-true, arith}
 use Rattle.std.specs.List.{flat_map, All, AllPairs, Contains}
 use Rattle.std.proofs.lemmas.Bool.Decides.{Decides-eqb, eqb_tells}
@@ -16,14 +16,14 @@ contains_in [] x i = absurd i
 contains_in (y ∷ ys) x (inl e) = (0, omega arith, e)
 contains_in (y ∷ ys) x (inr i) = let r = contains_in ys x i in (suc r.0, omega (arith, r.1), r.2)
 
--- ---- lists whose elements differ
+-- ---- lists without duplicates
 
 -- no element equals a later one
 abbrev pub Apart : {A : Type 0} → List A → Type 0
 Apart [] = Unit {0}
 Apart (x ∷ xs) = (In x xs → ⊥) × Apart xs
 
--- the same by places, and back
+-- the same by indices, and back
 pub pairs_of : {A : Type 0} (xs : List A) → Apart xs → AllPairs (λ x y. x ≢ y) xs
 pairs_of [] h = λ i j d lt within. absurd (omega arith)
 pairs_of {A} (x ∷ xs) h =
@@ -38,7 +38,7 @@ pub apart_before : {A B : Type 0} (f : A → B) (xs : List A) → Apart (map f x
 apart_before f [] h = tt
 apart_before f (x ∷ xs) h = (λ i. h.0 (in_map f xs x i), apart_before f xs h.1)
 
--- where f makes different things of the elements, equal ones are made of one
+-- an injective function maps only one element to a value
 pub one_source : {A B : Type 0} (f : A → B) (xs : List A) (x y : A) → Apart (map f xs) → In x xs → In y xs → f x ≡ f y → x ≡ y
 one_source f [] x y h i j e = absurd i
 one_source f (z ∷ zs) x y h (inl a) (inl b) e = sym a ∙ b
@@ -51,14 +51,14 @@ joined_apart [] ys h k none = k
 joined_apart (x ∷ xs) ys h k none =
     (λ i. elim (in_either xs ys x i) [ inl j ↦ h.0 j | inr j ↦ none x (inl refl) j ], joined_apart xs ys h.1 k (λ z i j. none z (inr i) j))
 
--- lists each of which repeats nothing, and that share nothing
+-- a concatenation of lists without duplicates and without common elements has no duplicates
 pub flat_apart : {A B : Type 0} (f : A → List B) (xs : List A) → Apart xs → ((x : A) → Apart (f x)) → ((x y : A) (z : B) → In x xs → In y xs → In z (f x) → In z (f y) → x ≡ y) → Apart (flat_map f xs)
 flat_apart f [] h each one = tt
 flat_apart {A} f (x ∷ xs) h each one =
     joined_apart (f x) (flat_map f xs) (each x) (flat_apart f xs h.1 each (λ y w z i j. one y w z (inr i) (inr j)))
     (λ z i j. let r = from_flat f xs z j in h.0 (subst (λ (y : A). In y xs) (sym (one x r.0 z (inl refl) (inr r.1) i r.2)) r.1))
 
--- ---- numbers that stand for things
+-- ---- numbers of elements
 
 in_or_not : (q : ℕ) (xs : List ℕ) → In q xs ⊎ (In q xs → ⊥)
 in_or_not q [] = inr (λ i. i)
@@ -67,7 +67,7 @@ in_or_not q (x ∷ xs) = elim (in_or_not q xs) [
   | inr none ↦ elim (eqb_tells x q) [ inl e ↦ inl (inl e.1) | inr e ↦ inr (λ i. elim i [ inl same ↦ e.1 same | inr j ↦ none j ]) ]
 ]
 
--- n numbers below n that differ are all of them
+-- n numbers below n without duplicates are all of them
 each_in : (xs : List ℕ) (n q : ℕ) → Apart xs → All (λ k. k < n) xs → length xs ≡ n → q < n → In q xs
 each_in xs n q apart below long h = elim (in_or_not q xs) [
   | inl i ↦ i
@@ -80,7 +80,7 @@ each_in xs n q apart below long h = elim (in_or_not q xs) [
       ))
 ]
 
--- where n numbers below n stand for different things, each stands for its own
+-- n numbers below n with distinct elements: each number has an element of its own
 pub one_each : {A : Type 0} (f : ℕ → A) (n : ℕ) (order : List ℕ) → AllPairs (λ a b. a ≢ b) (map f order) → All (λ k. k < n) order → length order ≡ n → (i j : ℕ) → i < n → j < n → f i ≡ f j → i ≡ j
 one_each f n order differ below long i j within inside e =
     let apart = apart_of (map f order) differ in

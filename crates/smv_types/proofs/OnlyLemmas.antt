@@ -1,10 +1,10 @@
--- What is reached has one number of nodes, in whatever order it is counted.
+-- The number of nodes is independent of the order in which shared nodes are counted.
 use Rattle.std.proofs.Common.{◌≡◌, ℕ, List, [], ◌∷◌, ◌++◌, ◌⊎◌, inl, inr, refl, sym, ap, ◌∙◌, subst, arith}
 use Rattle.std.specs.Option.{option_to_list}
 use Rattle.smv_kinds.proofs.MemberLemmas.{In, in_of}
-use Rattle.smv_nodes.specs.Own.{plus}
-use Rattle.smv_nodes.specs.Count.{Lookup, Piece, Shared, shared_piece, pieces_nodes, pieces_behind, IsCount}
-use Rattle.smv_nodes.proofs.CountLemmas.{pieces_append}
+use Rattle.smv_nodes.specs.Own.{saturating_add}
+use Rattle.smv_nodes.specs.Count.{Lookup, ReadExpr, Shared, shared_expr, exprs_nodes, exprs_of_shared, IsCount}
+use Rattle.smv_nodes.proofs.CountLemmas.{exprs_append}
 use Rattle.smv_types.proofs.ApartLemmas.{Apart, apart_of, contains_in}
 
 -- ---- lists
@@ -32,7 +32,7 @@ not_again [] ys x a i = a.0 i
 not_again {A} (z ∷ xs) ys x a (inl e) = a.0 (subst (λ (y : A). In y (xs ++ x ∷ ys)) (sym e) (in_middle xs ys x))
 not_again (z ∷ xs) ys x a (inr i) = not_again xs ys x a.1 i
 
--- where an element stands
+-- the position of an element
 record Split {A : Type 0} (ys : List A) (x : A) : Type 0 where
   before : List A
   after : List A
@@ -45,30 +45,30 @@ split (y ∷ ys) x (inr i) = let s = split ys x i in record { before = y ∷ s.b
 
 -- ---- sums
 
-plus_exchanged : (a b c : ℕ) → plus a (plus b c) ≡ plus b (plus a c)
-plus_exchanged a b c = omega arith
+saturating_add_exchanged : (a b c : ℕ) → saturating_add a (saturating_add b c) ≡ saturating_add b (saturating_add a c)
+saturating_add_exchanged a b c = omega arith
 
 module _ {P S : Type 0} (lookup : Lookup P S) where
-  -- the nodes of what stands behind one, and behind all of these
+  -- the nodes of the expression of one shared node, and of all of these
   abbrev one : Shared S → ℕ
-  one s = pieces_nodes lookup (option_to_list (shared_piece lookup s))
+  one s = exprs_nodes lookup (option_to_list (shared_expr lookup s))
 
   abbrev sum : List (Shared S) → ℕ
-  sum xs = pieces_nodes lookup (pieces_behind lookup xs)
+  sum xs = exprs_nodes lookup (exprs_of_shared lookup xs)
 
-  sum_next : (s : Shared S) (xs : List (Shared S)) → sum (s ∷ xs) ≡ plus (one s) (sum xs)
-  sum_next s xs = pieces_append lookup (option_to_list (shared_piece lookup s)) (pieces_behind lookup xs)
+  sum_next : (s : Shared S) (xs : List (Shared S)) → sum (s ∷ xs) ≡ saturating_add (one s) (sum xs)
+  sum_next s xs = exprs_append lookup (option_to_list (shared_expr lookup s)) (exprs_of_shared lookup xs)
 
-  sum_moved : (xs ys : List (Shared S)) (s : Shared S) → sum (xs ++ s ∷ ys) ≡ plus (one s) (sum (xs ++ ys))
+  sum_moved : (xs ys : List (Shared S)) (s : Shared S) → sum (xs ++ s ∷ ys) ≡ saturating_add (one s) (sum (xs ++ ys))
   sum_moved [] ys s = sum_next s ys
   sum_moved (x ∷ xs) ys s =
-      sum_next x (xs ++ s ∷ ys) ∙ (ap (plus (one x)) (sum_moved xs ys s) ∙ (plus_exchanged (one x) (one s) (sum (xs ++ ys)) ∙ ap (plus (one s)) (sym (sum_next x (xs ++ ys)))))
+      sum_next x (xs ++ s ∷ ys) ∙ (ap (saturating_add (one x)) (sum_moved xs ys s) ∙ (saturating_add_exchanged (one x) (one s) (sum (xs ++ ys)) ∙ ap (saturating_add (one s)) (sym (sum_next x (xs ++ ys)))))
 
   same_sum : (xs ys : List (Shared S)) → Apart xs → Apart ys → ((s : Shared S) → In s xs → In s ys) → ((s : Shared S) → In s ys → In s xs) → sum xs ≡ sum ys
   same_sum [] [] a b f g = refl
   same_sum [] (y ∷ ys) a b f g = absurd (g y (inl refl))
   same_sum (x ∷ xs) ys a b f g =
-      sum_next x xs ∙ (ap (plus (one x)) (same_sum xs (at.before ++ at.after) a.1 (apart_without at.before at.after x apart_there) forth back) ∙ (sym (sum_moved at.before at.after x) ∙ ap sum (sym at.is)))
+      sum_next x xs ∙ (ap (saturating_add (one x)) (same_sum xs (at.before ++ at.after) a.1 (apart_without at.before at.after x apart_there) forth back) ∙ (sym (sum_moved at.before at.after x) ∙ ap sum (sym at.is)))
     where
       at : Split ys x
       at = split ys x (f x (inl refl))
@@ -85,9 +85,9 @@ module _ {P S : Type 0} (lookup : Lookup P S) where
         | inr j ↦ j
       ]
 
-  -- two counts of the same items are one
-  pub one_count : (items : List (Piece P)) (n m : ℕ) → IsCount lookup items n → IsCount lookup items m → n ≡ m
+  -- two counts of the same items are equal
+  pub one_count : (items : List (ReadExpr P)) (n m : ℕ) → IsCount lookup items n → IsCount lookup items m → n ≡ m
   one_count items n m (xs, r, e) (ys, q, f) =
-      e ∙ (pieces_append lookup items (pieces_behind lookup xs)
-      ∙ (ap (plus (pieces_nodes lookup items)) (same_sum xs ys (apart_of xs r.once) (apart_of ys q.once) (λ s i. in_of ys s (q.all s (r.reached s (contains_in xs s i)))) (λ s i. in_of xs s (r.all s (q.reached s (contains_in ys s i)))))
-      ∙ (sym (pieces_append lookup items (pieces_behind lookup ys)) ∙ sym f)))
+      e ∙ (exprs_append lookup items (exprs_of_shared lookup xs)
+      ∙ (ap (saturating_add (exprs_nodes lookup items)) (same_sum xs ys (apart_of xs r.once) (apart_of ys q.once) (λ s i. in_of ys s (q.all s (r.reached s (contains_in xs s i)))) (λ s i. in_of xs s (r.all s (q.reached s (contains_in ys s i)))))
+      ∙ (sym (exprs_append lookup items (exprs_of_shared lookup ys)) ∙ sym f)))

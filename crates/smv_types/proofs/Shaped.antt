@@ -1,4 +1,4 @@
--- Where the rules of the text are kept, choices stand where the rules of kinds need them.
+-- Where the rules of the text are kept, choices are where the rules of kinds need them.
 use Rattle.std.proofs.Common.{◌≡◌, Bool, true, false, ◌&&◌, ◌||◌, List, [], ◌∷◌, map, refl, sym, subst, arith}
 use Rattle.std.specs.Prelude.{ℤ, int_lt, int_le}
 use Rattle.std.specs.List.{list_all, list_any}
@@ -29,18 +29,19 @@ up_to low high e = grind (arith, ints)
 
 -- ---- expressions
 
--- An expression without an empty interval, by its shape: plain where it may hold no choice, free where it may be one.
+-- An expression without an empty interval, by its shape: plain where it may contain no choice, free
+-- where it may be one.
 record Tame (empty : Bool) (stray : Bool → Bool) (shape : Shape) : Type 0 where
   plain : empty ≡ false → stray false ≡ false → shape.plain ≡ true
   free : empty ≡ false → stray true ≡ false → shape.free ≡ true
   loose : shape.plain ≡ true → shape.free ≡ true
 
--- the same of a choice, whose parts hold no choice
+-- a choice, whose parts contain no choice
 record TameChoice (empty stray : Bool) (shape : Shape) : Type 0 where
   plain : empty ≡ false → stray ≡ false → shape.plain ≡ true
   free : empty ≡ false → stray ≡ false → shape.free ≡ true
 
--- the same of a branch
+-- a branch without an empty interval, by its shapes
 record TameBranch (empty : Bool) (stray : Bool → Bool) (shape : BranchShape) : Type 0 where
   plain : empty ≡ false → stray false ≡ false → shape.cond.plain && shape.value.plain ≡ true
   free : empty ≡ false → stray true ≡ false → shape.cond.plain && shape.value.free ≡ true
@@ -112,7 +113,7 @@ choice_from = map-Choice Choices Exprs Branches Choice Expr Branch (λ c. c.0) (
 abbrev expr_from : Expr-F Choices Exprs Branches → Expr-F Choice Expr Branch
 expr_from = map-Expr Choices Exprs Branches Choice Expr Branch (λ c. c.0) (λ e. e.0) (λ b. b.0)
 
--- what each definition makes of a layer, of what it makes of the parts
+-- the result of each definition on a layer, given its results on the parts
 abbrev choice_empty : Choice-F Choice Expr Branch → Bool
 choice_empty d = ranges.choice_layer (map-Choice Choice Expr Branch Bool Bool Bool ranges.choice_has_empty ranges.has_empty ranges.branch_has_empty d)
 
@@ -135,7 +136,7 @@ choice_tame : (y : Choice-F Choices Exprs Branches) → TameChoice (choice_empty
 choice_tame (Choice-F.Each parts) = record { plain = parts_plain parts; free = λ e s. parts_loose parts (parts_plain parts e s) }
 choice_tame (Choice-F.Between low high) = record { plain = λ e s. refl; free = λ e s. up_to low high e }
 
--- what is no choice is as plain as its parts, whatever is allowed
+-- an expression other than a choice is as plain as its parts, whatever is allowed
 single_tame : (empty : Bool) (stray : Bool → Bool) (plain : Bool) → ((allowed : Bool) → empty ≡ false → stray allowed ≡ false → plain ≡ true) → Tame empty stray (single_shape plain)
 single_tame empty stray plain h = record { plain = h false; free = h true; loose = λ e. e }
 
@@ -164,7 +165,7 @@ expr_step d h =
     (subst (λ (v : Bool → Bool). Tame (expr_empty d) v (shape_of (roll-Expr d))) (sym (fold-roll-Expr Bool choices.Placed choices.Placed choices.choice_layer choices.expr_layer choices.branch_layer d))
     (subst (λ (s : Shape). Tame (expr_empty d) (expr_stray d) s) (sym (fold-roll-Expr Shape Shape BranchShape choice_shape_layer expr_shape_layer branch_shape_layer d)) h))
 
--- whether a choice is out of place in the branch of these parts
+-- whether the branch of these parts has a misplaced choice
 abbrev arm_stray : Expr → Expr → Bool → Bool
 arm_stray cond value allowed = choices.has_stray_choice cond false || choices.has_stray_choice value allowed
 
@@ -189,10 +190,11 @@ tame = ind-Expr TameOf TameExpr TameArm
     (λ x y e. subst (λ (d : Expr-F Choice Expr Branch). TameExpr (roll-Expr d)) e (expr_step (expr_from y) (expr_tame y)))
     (λ x y e. subst (λ (d : Branch-F Choice Expr Branch). TameArm (roll-Branch d)) e (branch_step y.cond y.value))
 
--- an expression without an empty interval, in which no choice is out of place where none may stand
+-- an expression without an empty interval, and without a misplaced choice where none may be
 pub plain_of : (e : Expr) → ranges.has_empty e ≡ false → choices.has_stray_choice e false ≡ false → (shape_of e).plain ≡ true
 plain_of e = (tame e).plain
 
--- the same where it may be a choice itself
+-- an expression without an empty interval, and without a misplaced choice where it may be one
+-- itself
 pub free_of : (e : Expr) → ranges.has_empty e ≡ false → choices.has_stray_choice e true ≡ false → (shape_of e).free ≡ true
 free_of e = (tame e).free

@@ -2,7 +2,7 @@
 use Rattle.std.specs.Prelude.{◌≡◌, ◌≢◌, ℕ, map, Option, AllPairs}
 use Rattle.smv_ast.specs.declared.fault.Fault.{Fault}
 use Rattle.smv_ast.specs.declared.program.Program.{Program}
-use Rattle.smv_meaning.specs.Instances.{instances, place_text}
+use Rattle.smv_meaning.specs.Instances.{instances, instance_text}
 use Rattle.smv_meaning.specs.Runs.{or_else}
 use Rattle.smv_names.specs.NamesFault.{names_fault}
 use Rattle.smv_shape.specs.Shape.{shape_fault}
@@ -11,28 +11,30 @@ use Rattle.smv_kinds.specs.Rules.{kinds_fault}
 use Rattle.smv_nodes.specs.Count.{HasNodes}
 use Rattle.smv_types.specs.declared.checks.Typed.{Typed}
 
--- the first fault of what the instances of a model read: what reads itself or nests too deep, then kinds and intervals
+-- the first fault of cyclic definitions and nesting, then of kinds and intervals
 abbrev pub read_fault : Program → Option Fault
 read_fault program = or_else (cycles_fault program) (kinds_fault program)
 
--- the first fault of the names of a model, then of its text alone: of ranges, left sides, choices and `next`
+-- the first fault of the names of a model, then of its text alone: ranges, left sides, choices and
+-- `next`
 abbrev pub text_fault : Program → Option Fault
 text_fault program = or_else (names_fault program) (shape_fault program)
 
 -- the first fault of a model
-abbrev pub first_fault : Program → Option Fault
-first_fault program = or_else (text_fault program) (read_fault program)
+abbrev pub model_fault : Program → Option Fault
+model_fault program = or_else (text_fault program) (read_fault program)
 
--- no two instances of a model are one
+-- the instances of a model are distinct
 abbrev pub AreApart : Program → Type 0
 AreApart program = AllPairs (λ p q. p ≢ q) (instances program)
 
--- so many nodes the constraints and specs of a model make; no other number is theirs
+-- the number of nodes of a model's constraints and specs, and no other number
 pub record IsNodes (program : Program) (n : ℕ) : Type 0 where
   pub has : HasNodes program n
   pub only : (m : ℕ) → HasNodes program m → m ≡ n
 
--- what a model has: the texts of its instances in their order, and how many nodes its constraints and specs make
+-- the data of a checked model: the texts of its instances in order, and the number of nodes of its
+-- constraints and specs
 pub record IsTyped (program : Program) (typed : Typed) : Type 0 where
-  pub instances : typed.instances ≡ map place_text (instances program)
+  pub instances : typed.instances ≡ map instance_text (instances program)
   pub nodes : IsNodes program typed.nodes

@@ -1,4 +1,4 @@
-//! The static checks of models: all rules one after another.
+//! The static checks of models, rule by rule.
 #![tactic(auto)]
 
 mod checks;

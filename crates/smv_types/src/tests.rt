@@ -8,17 +8,14 @@ use smv_ast::{
 use std::alloc::Global;
 use std::test::Fail;
 
-fn place(at: u32) -> Span {
+fn span(at: u32) -> Span {
     Span { file: 0, at }
 }
 
 fn name(alloc: Global, word: &str) -> Result<Expr, NoMemory> {
     let mut names = List::new(alloc);
     names.push(Text::from_str(alloc, word)?)?;
-    Ok(Expr::Name(Path {
-        names,
-        at: place(0),
-    }))
+    Ok(Expr::Name(Path { names, at: span(0) }))
 }
 
 fn beside(alloc: Global, op: Op, n: u32) -> Result<Expr, NoMemory> {
@@ -36,7 +33,7 @@ fn main_of(alloc: Global, sections: List<Section>) -> Result<Program, NoMemory> 
         name: Text::from_str(alloc, "main")?,
         formals: List::new(alloc),
         sections,
-        at: place(0),
+        at: span(0),
     })?;
     Ok(Program { modules })
 }
@@ -45,12 +42,12 @@ fn defined(alloc: Global, word: &str, right: Expr, at: u32) -> Result<Definition
     Ok(Definition {
         name: Text::from_str(alloc, word)?,
         right,
-        at: place(at),
+        at: span(at),
     })
 }
 
 // `MODULE main DEFINE d := e; e := d;`.
-fn circle(alloc: Global) -> Result<Program, NoMemory> {
+fn cyclic_model(alloc: Global) -> Result<Program, NoMemory> {
     let mut definitions = List::new(alloc);
     definitions.push(defined(alloc, "d", name(alloc, "e")?, 19)?)?;
     definitions.push(defined(alloc, "e", name(alloc, "d")?, 27)?)?;
@@ -59,8 +56,8 @@ fn circle(alloc: Global) -> Result<Program, NoMemory> {
     main_of(alloc, sections)
 }
 
-// `MODULE main DEFINE z := d; d := a + e; a := b; b := a; e := d;`: `z` reads circles and is on none,
-// `d` reads the circle of `a` before its own.
+// `MODULE main DEFINE z := d; d := a + e; a := b; b := a; e := d;`: `z` reads cycles and is on
+// none, `d` reads the cycle of `a` before its own.
 fn detour(alloc: Global) -> Result<Program, NoMemory> {
     let both = Expr::Binary(
         Op::Add,
@@ -79,20 +76,20 @@ fn detour(alloc: Global) -> Result<Program, NoMemory> {
 }
 
 // `!` so many times before an expression.
-fn denied(alloc: Global, times: u32, e: Expr) -> Result<Expr, NoMemory> {
+fn logical_not(alloc: Global, times: u32, e: Expr) -> Result<Expr, NoMemory> {
     let mut whole = e;
-    for _turn in 0..times {
+    for _round in 0..times {
         whole = Expr::Not(Boxed::new(alloc, whole)?);
     }
     Ok(whole)
 }
 
-// `MODULE main DEFINE d := ..; e := ..;`: `d` of 600 nodes, of a name and of what it reads, which is `TRUE`
-// behind so many `!`.
+// `MODULE main DEFINE d := ..; e := ..;`: `d` has 600 nodes above `e`, which is `TRUE` after so
+// many `!`.
 fn nested(alloc: Global, times: u32) -> Result<Program, NoMemory> {
     let mut definitions = List::new(alloc);
-    definitions.push(defined(alloc, "d", denied(alloc, 600, name(alloc, "e")?)?, 19)?)?;
-    definitions.push(defined(alloc, "e", denied(alloc, times, Expr::True)?, 27)?)?;
+    definitions.push(defined(alloc, "d", logical_not(alloc, 600, name(alloc, "e")?)?, 19)?)?;
+    definitions.push(defined(alloc, "e", logical_not(alloc, times, Expr::True)?, 27)?)?;
     let mut sections = List::new(alloc);
     sections.push(Section::Defines(definitions))?;
     main_of(alloc, sections)
@@ -117,17 +114,17 @@ fn assigned(alloc: Global, left: Left, right: Expr) -> Result<Assignment, NoMemo
         left,
         name: Text::from_str(alloc, "x")?,
         right,
-        at: place(0),
+        at: span(0),
     })
 }
 
-// A counter from 0 to 2, and that it does not pass 2.
+// A counter from 0 to 2, and a spec that it does not pass 2.
 fn counter(alloc: Global) -> Result<Program, NoMemory> {
     let mut variables = List::new(alloc);
     variables.push(Declaration {
         name: Text::from_str(alloc, "x")?,
         what: Declared::Plain(SmvType::Range { low: 0, high: 3 }),
-        at: place(0),
+        at: span(0),
     })?;
     let mut assignments = List::new(alloc);
     assignments.push(assigned(alloc, Left::Init, Expr::Number(0))?)?;
@@ -135,44 +132,44 @@ fn counter(alloc: Global) -> Result<Program, NoMemory> {
     let mut sections = List::new(alloc);
     sections.push(Section::Vars(variables))?;
     sections.push(Section::Assigns(assignments))?;
-    sections.push(Section::InvarSpec(beside(alloc, Op::Le, 2)?, place(0)))?;
+    sections.push(Section::InvarSpec(beside(alloc, Op::Le, 2)?, span(0)))?;
     main_of(alloc, sections)
 }
 
-fn is_circle(answer: Result<Typed, Fault>) -> bool {
+fn is_cycle(answer: Result<Typed, Fault>) -> bool {
     match answer {
         Err(
             Fault::CyclicDefine {
                 at: Some(at),
                 cycle,
             },
-        ) => at == place(19) && cycle.is("d,e"),
+        ) => at == span(19) && cycle.is("d,e"),
         _ => false,
     }
 }
 
 #[test]
-fn circles(rt: HostRuntime) -> Result<(), Fail> {
+fn cycles_are_reported(rt: HostRuntime) -> Result<(), Fail> {
     let alloc = rt.alloc();
-    assert!(rt; is_circle(check(alloc, &circle(alloc)?)));
-    assert!(rt; is_circle(check(alloc, &detour(alloc)?)));
+    assert!(rt; is_cycle(check(alloc, &cyclic_model(alloc)?)));
+    assert!(rt; is_cycle(check(alloc, &detour(alloc)?)));
     Ok(())
 }
 
-// 601 and the height of what is read: 399 fits, 400 does not.
+// 601 and the height of `e`: 399 fits, 400 does not.
 #[test]
 fn one_thousand_and_one_more(rt: HostRuntime) -> Result<(), Fail> {
     let alloc = rt.alloc();
     assert!(rt; check(alloc, &nested(alloc, 398)?).is_ok());
     match check(alloc, &nested(alloc, 399)?) {
-        Err(Fault::TooNested { at }) => assert_eq!(rt; at, Some(place(19))),
+        Err(Fault::TooNested { at }) => assert_eq!(rt; at, Some(span(19))),
         _ => panic!(rt; "not nested too deep"),
     }
     Ok(())
 }
 
-// The variable and the number of `init(x)` and an Eq; of `next(x)` the variable, two times a variable,
-// a number and an operator, a variable, a Choose and an Eq; of the spec a variable, a number and Le.
+// `init(x)` makes the variable, the number and an Eq; `next(x)` the variable, two times a variable,
+// a number and an operator, a variable, a Choose and an Eq; the spec a variable, a number and Le.
 #[test]
 fn counted(rt: HostRuntime) -> Result<(), Fail> {
     let program = counter(rt.alloc())?;

@@ -34,7 +34,7 @@ fn action_fault(
     }
 }
 
-/// Why a change of the feature cannot be applied to the model, if it cannot.
+/// The first reason for which a change cannot be applied to the model, if there is one.
 fn change_fault(
     alloc: Global,
     feature: &Text,
@@ -74,18 +74,18 @@ fn apply_change(alloc: Global, program: Program, change: Change) -> Result<Progr
 }
 
 fn reversed(alloc: Global, mut changes: List<Change>) -> Result<List<Change>, NoMemory>
-    ensures { IfOk result (λ turned. turned ≡ reverse changes) }
+    ensures { IfOk result (λ backwards. backwards ≡ reverse changes) }
 {
-    let mut turned = List::new(alloc);
-    for _turn in 0..changes.len() {
+    let mut backwards = List::new(alloc);
+    for _round in 0..changes.len() {
         if let Some(change) = changes.pop() {
-            turned.push(change)?;
+            backwards.push(change)?;
         }
     }
-    Ok(turned)
+    Ok(backwards)
 }
 
-/// The model with the change applied, or why it cannot be.
+/// The model with the change applied, or the fault of the change.
 fn try_change(
     alloc: Global,
     feature: &Text,
@@ -100,8 +100,8 @@ fn try_change(
     }
 }
 
-/// The model with the changes of the feature applied, each to the text as it then is; or the fault of the first that
-/// cannot be. The model is used up.
+/// The model with the changes of the feature applied in order, or the fault of the first that
+/// cannot be applied to the model as changed so far. The model is consumed.
 pub fn apply_changes(
     alloc: Global,
     feature: &Text,
@@ -112,7 +112,7 @@ pub fn apply_changes(
 {
     let mut program = program;
     let mut waiting = reversed(alloc, changes)?;
-    for _turn in 0..waiting.len() {
+    for _round in 0..waiting.len() {
         if let Some(change) = waiting.pop() {
             match try_change(alloc, feature, program, change) {
                 Ok(next) => program = next,

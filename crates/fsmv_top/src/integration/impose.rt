@@ -4,7 +4,7 @@ ghost use Rattle.std.specs.Prelude.{◌≡◌, ◌∷◌, [], ◌+◌, IfOk, Som
 ghost use Rattle.std.specs.List.{list_any};
 ghost use Rattle.std.specs.Str.{bytes_eq};
 ghost use Rattle.std.specs.Option.{option_copied};
-ghost use Rattle.fsmv_top.specs.Lists.{first_place, IsLastPlace, change_first};
+ghost use Rattle.fsmv_top.specs.Lists.{first_index, IsLastIndex, change_first};
 ghost use Rattle.fsmv_top.specs.Impose as spec;
 ghost use Rattle.fsmv_top.specs.UsedNames.{declarations, declarations_of};
 ghost use Rattle.smv_ast.specs.declared.syntax.Expr.TheVariants as expr;
@@ -17,7 +17,8 @@ use smv_ast::{
 };
 use std::alloc::Global;
 
-/// What a change imposes: where `cond` is true, the variable's value of this time is that of `right`.
+/// A change of a variable: where `cond` is true, its value at the time of `left` is that of
+/// `right`.
 #[derive(Drop)]
 pub struct Imposed {
     pub cond: Expr,
@@ -59,8 +60,8 @@ fn guarded(alloc: Global, cond: Expr, value: Expr, old: Expr) -> Result<Expr, No
     Ok(Expr::Cases(branches))
 }
 
-fn place_of_assignment(left: Left, name: &Text, assignments: &[Assignment]) -> Option<usize>
-    ensures { result ≡ first_place (spec.has_left left name.now) assignments.now }
+fn index_of_assignment(left: Left, name: &Text, assignments: &[Assignment]) -> Option<usize>
+    ensures { result ≡ first_index (spec.has_left left name.now) assignments.now }
 {
     for (i, assignment) in assignments.iter().enumerate() {
         if has_left(left, name, assignment) {
@@ -70,22 +71,23 @@ fn place_of_assignment(left: Left, name: &Text, assignments: &[Assignment]) -> O
     None
 }
 
-#[tactic(auto, using(crate::proofs::ListLemmas::change_first_none, crate::proofs::ListLemmas::place_below))]
+#[tactic(auto, using(crate::proofs::ListLemmas::change_first_none, crate::proofs::ListLemmas::first_index_below))]
 fn guard_first(
     alloc: Global,
     mut assignments: List<Assignment>,
     imposed: Imposed,
 ) -> Result<List<Assignment>, NoMemory>
     ensures { IfOk result (λ changed. changed
-        ≡ change_first (spec.has_left imposed.left imposed.name) (spec.guarded_assignment imposed) assignments) }
+        ≡ change_first (spec.has_left imposed.left imposed.name) (spec.guarded_assignment imposed)
+        assignments) }
 {
-    let found = place_of_assignment(imposed.left, &imposed.name, assignments.as_slice());
+    let found = index_of_assignment(imposed.left, &imposed.name, assignments.as_slice());
     let Some(at) = found else {
         return Ok(assignments);
     };
-    let (old, behind) = take_at(alloc, &mut assignments, at)?;
+    let (old, after_it) = take_at(alloc, &mut assignments, at)?;
     assignments.push(guarded_assignment(alloc, imposed, old)?)?;
-    assignments.append(behind)?;
+    assignments.append(after_it)?;
     Ok(assignments)
 }
 
@@ -110,20 +112,20 @@ fn guarded_assignment(
     })
 }
 
-#[tactic(auto, using(crate::proofs::ListLemmas::is_some_first_place))]
+#[tactic(auto, using(crate::proofs::ListLemmas::is_some_first_index))]
 fn assigns(left: Left, name: &Text, section: &Section) -> bool
     ensures { result ≡ spec.assigns left name.now section.now }
 {
     match section {
         Section::Assigns(assignments) => {
-            place_of_assignment(left, name, assignments.as_slice()).is_some()
+            index_of_assignment(left, name, assignments.as_slice()).is_some()
         }
         _ => false,
     }
 }
 
-fn place_of_section(left: Left, name: &Text, sections: &[Section]) -> Option<usize>
-    ensures { result ≡ first_place (spec.assigns left name.now) sections.now }
+fn index_of_section(left: Left, name: &Text, sections: &[Section]) -> Option<usize>
+    ensures { result ≡ first_index (spec.assigns left name.now) sections.now }
 {
     for (i, section) in sections.iter().enumerate() {
         if assigns(left, name, section) {
@@ -144,24 +146,25 @@ fn guard_section(alloc: Global, section: Section, imposed: Imposed) -> Result<Se
     }
 }
 
-/// Guards the first assignment of the left side, in the section at `at`, which has one.
+/// Guards the first assignment of the left side in the section at `at`, which has one.
 fn guard_in_section(
     alloc: Global,
     mut sections: List<Section>,
     imposed: Imposed,
     at: usize,
 ) -> Result<List<Section>, NoMemory>
-    requires { first_place (spec.assigns imposed.left imposed.name) sections ≡ Some at }
+    requires { first_index (spec.assigns imposed.left imposed.name) sections ≡ Some at }
     ensures { IfOk result (λ changed. changed
-        ≡ change_first (spec.assigns imposed.left imposed.name) (spec.guarded_section imposed) sections) }
+        ≡ change_first (spec.assigns imposed.left imposed.name) (spec.guarded_section imposed)
+        sections) }
 {
-    let (section, behind) = take_at(alloc, &mut sections, at)?;
+    let (section, after_it) = take_at(alloc, &mut sections, at)?;
     sections.push(guard_section(alloc, section, imposed)?)?;
-    sections.append(behind)?;
+    sections.append(after_it)?;
     Ok(sections)
 }
 
-/// As a number of an expression. None of a model passes the last value of a `u32`.
+/// A number as an expression. No number of a model exceeds `u32`.
 fn number(alloc: Global, n: i64) -> Result<Expr, NoMemory>
     ensures { IfOk result (λ e. e ≡ spec.number n) }
 {
@@ -229,8 +232,9 @@ fn is_assigns(section: &Section) -> bool
     }
 }
 
-fn place_of_last_assigns(sections: &[Section]) -> Option<usize>
-    ensures { MatchOption result (list_any spec.is_assigns sections.now ≡ false) (IsLastPlace spec.is_assigns sections.now) }
+fn index_of_last_assigns(sections: &[Section]) -> Option<usize>
+    ensures { MatchOption result (list_any spec.is_assigns sections.now ≡ false)
+        (IsLastIndex spec.is_assigns sections.now) }
 {
     for i in (0..sections.len()).rev() {
         if is_assigns(&sections[i]) {
@@ -259,16 +263,16 @@ fn with_assignment(
 ) -> Result<List<Section>, NoMemory>
     ensures { IfOk result (λ changed. changed ≡ spec.with_assignment sections assignment) }
 {
-    let found = place_of_last_assigns(sections.as_slice());
+    let found = index_of_last_assigns(sections.as_slice());
     let Some(at) = found else {
         let mut assignments = List::new(alloc);
         assignments.push(assignment)?;
         sections.push(Section::Assigns(assignments))?;
         return Ok(sections);
     };
-    let (last, behind) = take_at(alloc, &mut sections, at)?;
+    let (last, after_it) = take_at(alloc, &mut sections, at)?;
     sections.push(one_more(last, assignment)?)?;
-    sections.append(behind)?;
+    sections.append(after_it)?;
     Ok(sections)
 }
 
@@ -294,7 +298,8 @@ fn declarations_of(section: &Section) -> &[Declaration]
 
 /// The first declaration of the name.
 fn declared<'a>(name: &Text, sections: &'a [Section]) -> Option<&'a Declaration>
-    ensures { option_copied result ≡ find (λ d. bytes_eq name.now d.name) (declarations sections.now) }
+    ensures { option_copied result
+        ≡ find (λ d. bytes_eq name.now d.name) (declarations sections.now) }
 {
     for section in sections {
         match declared_in(name, declarations_of(section)) {
@@ -314,7 +319,7 @@ fn type_of<'a>(name: &Text, sections: &'a [Section]) -> Option<&'a SmvType>
     }
 }
 
-/// Where no assignment of the left side stands: one that keeps any value of the type where the
+/// The assignment for a left side that has none: it allows any value of the type where the
 /// condition is false.
 fn new_assignment(alloc: Global, imposed: Imposed, values: Choice) -> Result<Assignment, NoMemory>
     ensures { IfOk result (λ a. a ≡ spec.kept_assignment imposed values) }
@@ -357,7 +362,7 @@ fn impose_on(
 ) -> Result<List<Section>, NoMemory>
     ensures { IfOk result (λ changed. changed ≡ spec.imposed_on imposed sections) }
 {
-    match place_of_section(imposed.left, &imposed.name, sections.as_slice()) {
+    match index_of_section(imposed.left, &imposed.name, sections.as_slice()) {
         Some(at) => guard_in_section(alloc, sections, imposed, at),
         None => with_new(alloc, sections, imposed),
     }
@@ -380,8 +385,8 @@ fn impose_in(alloc: Global, module: Module, imposed: Imposed) -> Result<Module, 
     })
 }
 
-fn place_of_module(name: &Text, modules: &[Module]) -> Option<usize>
-    ensures { result ≡ first_place (spec.is_named name.now) modules.now }
+fn index_of_module(name: &Text, modules: &[Module]) -> Option<usize>
+    ensures { result ≡ first_index (spec.is_named name.now) modules.now }
 {
     for (i, module) in modules.iter().enumerate() {
         if same_text(name, &module.name) {
@@ -391,10 +396,10 @@ fn place_of_module(name: &Text, modules: &[Module]) -> Option<usize>
     None
 }
 
-/// The model with the IMPOSE applied to its first module of this name. The model is used up.
+/// The model with the IMPOSE applied to its first module of this name. The model is consumed.
 ///
-/// The only error is want of memory.
-#[tactic(auto, using(crate::proofs::ListLemmas::change_first_none, crate::proofs::ListLemmas::place_below))]
+/// The only error is `NoMemory`.
+#[tactic(auto, using(crate::proofs::ListLemmas::change_first_none, crate::proofs::ListLemmas::first_index_below))]
 pub fn impose(
     alloc: Global,
     program: Program,
@@ -404,17 +409,17 @@ pub fn impose(
     ensures { IfOk result (λ p. p ≡ spec.imposed imposed name.now program) }
 {
     let Program { mut modules } = program;
-    let found = place_of_module(name, modules.as_slice());
+    let found = index_of_module(name, modules.as_slice());
     let Some(at) = found else {
         return Ok(Program { modules });
     };
-    let (module, behind) = take_at(alloc, &mut modules, at)?;
+    let (module, after_it) = take_at(alloc, &mut modules, at)?;
     modules.push(impose_in(alloc, module, imposed)?)?;
-    modules.append(behind)?;
+    modules.append(after_it)?;
     Ok(Program { modules })
 }
 
-/// The sections of the first module of this name, or none.
+/// The sections of the first module of this name; none without one.
 fn sections_named<'a>(name: &Text, program: &'a Program) -> &'a [Section]
     ensures { result.now ≡ spec.sections_named name.now program.now }
 {
@@ -426,15 +431,15 @@ fn sections_named<'a>(name: &Text, program: &'a Program) -> &'a [Section]
     &[]
 }
 
-/// Whether the sections assign the variable its value in every state.
-#[tactic(auto, using(crate::proofs::ListLemmas::is_some_first_place))]
+/// Whether the sections have an assignment `name := ..`.
+#[tactic(auto, using(crate::proofs::ListLemmas::is_some_first_index))]
 fn assigns_always(name: &Text, sections: &[Section]) -> bool
     ensures { result ≡ list_any (spec.assigns Left.Now name.now) sections.now }
 {
-    place_of_section(Left::Now, name, sections).is_some()
+    index_of_section(Left::Now, name, sections).is_some()
 }
 
-/// Whether an IMPOSE of this form fits the assignments that stand.
+/// Whether an IMPOSE of this form fits the existing assignments.
 fn fits_assignments(left: Left, name: &Text, sections: &[Section]) -> bool
     ensures { result ≡ spec.fits_assignments left name.now sections.now }
 {
@@ -469,10 +474,11 @@ fn fault_in(
     }))
 }
 
-/// Why an IMPOSE at this place cannot be applied to the module of this name.
+/// The reason for which an IMPOSE at this span cannot be applied to the module of this name, if
+/// there is one.
 ///
-/// ImposeTarget where the module declares no variable of the target's name with a type; ImposeKind where the form does
-/// not fit the assignments that stand. The only error is want of memory.
+/// ImposeTarget where the module declares no variable of that name; ImposeKind where the form does
+/// not fit the existing assignments. The only error is `NoMemory`.
 pub fn impose_fault(
     alloc: Global,
     program: &Program,
@@ -481,7 +487,8 @@ pub fn impose_fault(
     left: Left,
     name: &Text,
 ) -> Result<Option<Fault>, NoMemory>
-    ensures { IfOk result (λ f. f ≡ spec.impose_fault at left name.now (spec.sections_named «module».now program.now)) }
+    ensures { IfOk result (λ f. f
+        ≡ spec.impose_fault at left name.now (spec.sections_named «module».now program.now)) }
 {
     fault_in(alloc, sections_named(module, program), at, left, name)
 }

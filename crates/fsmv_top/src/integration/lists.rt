@@ -1,11 +1,11 @@
-//! Taking a list apart at one item.
+//! Splitting a list at one item.
 
 ghost use Rattle.std.specs.Prelude.{◌≡◌, ◌∷◌, ◌++◌, ◌<◌, ◌≤◌, length, IfOk, OnOk};
 
 use smv_ast::{List, NoMemory};
 use std::alloc::Global;
 
-/// Takes the last `count` items out of the list, in their order.
+/// Splits off the last `count` items of the list, in their order.
 fn take_last<T: Drop>(alloc: Global, list: &mut List<T>, count: usize) -> Result<List<T>, NoMemory>
     requires { count ≤ length list.old }
     ensures split { IfOk result (λ last. list.old ≡ list.new ++ last) }
@@ -18,7 +18,7 @@ fn take_last<T: Drop>(alloc: Global, list: &mut List<T>, count: usize) -> Result
         }
     }
     let mut last = List::new(alloc);
-    'turning: for _turned in 0..count {
+    'restoring: for _restored in 0..count {
         if let Some(item) = reversed.pop() {
             last.push(item)?;
         }
@@ -26,7 +26,7 @@ fn take_last<T: Drop>(alloc: Global, list: &mut List<T>, count: usize) -> Result
     Ok(last)
 }
 
-/// Takes the item at `at` out of the list, and all items behind it: first that item, then those.
+/// Splits the list at `at`: the item there, and the suffix after it.
 pub fn take_at<T: Drop>(
     alloc: Global,
     list: &mut List<T>,
@@ -34,10 +34,10 @@ pub fn take_at<T: Drop>(
 ) -> Result<(T, List<T>), NoMemory>
     requires { at < length list.old }
     ensures split { IfOk result (λ taken. list.old ≡ list.new ++ taken.0 ∷ taken.1) }
-    ensures place { OnOk result (length list.new ≡ at) }
+    ensures index { OnOk result (length list.new ≡ at) }
 {
     let count = list.len() - at - 1;
-    let behind = take_last(alloc, list, count)?;
+    let after_it = take_last(alloc, list, count)?;
     let item = list.pop().unwrap();
-    Ok((item, behind))
+    Ok((item, after_it))
 }

@@ -1,48 +1,51 @@
-//! The names that a change uses, and the first of them that is not known.
+//! The names that a change uses, and the first of them that is unknown.
 
 ghost use Rattle.std.specs.Prelude.{◌≡◌, ◌∷◌, [], IfOk, map};
 ghost use Rattle.std.specs.Option.{option_copied, option_map};
 ghost use Rattle.smv_meaning.specs.Mentions.{pointed};
 ghost use Rattle.smv_meaning.specs.Runs.{path_text};
-ghost use Rattle.smv_meaning.specs.Scopes.{scope_seen, scopes_of as scopes_of_program};
-ghost use Rattle.smv_meaning.specs.Checking.{IsRight};
+ghost use Rattle.smv_meaning.specs.Scopes.{scope_view, scopes_of as scopes_of_program};
+ghost use Rattle.smv_meaning.specs.Checking.{IsTableOfProgram};
 ghost use Rattle.smv_names.specs.Unknown as unknown;
 ghost use Rattle.fsmv_top.specs.UsedNames as spec;
 
 use smv_ast::{Action, Change, Expr, NoMemory, Path, Program, Span, Text, print_joined};
+use smv_meaning::aliases::aliases_of;
 use smv_meaning::mentions::push_paths;
 use smv_meaning::scope::{Scope, modules_by_name, scopes_of};
-use smv_meaning::standing::standing_of;
-use smv_meaning::tree::{Tree, tree_of};
-use smv_names::known::{Knowledge, Sight, declared_in, is_known};
+use smv_meaning::table::{InstanceTable, instance_table};
+use smv_names::known::{ModuleScope, Resolver, declared_in, is_known};
 use smv_names::rows::RowsByModule;
 use smv_names::symbols::symbols_of;
 use std::alloc::Global;
 
-/// A name that is used and not known, and its place.
+/// A name that is used and unknown, with its span.
 #[derive(Drop)]
 pub struct MissingName {
     pub name: Text,
     pub at: Span,
 }
 
-fn first_unknown<'a>(sight: &Sight, paths: &[&'a Path]) -> Option<&'a Path>
-    requires { unknown.IsSight sight.now }
-    ensures { option_copied result ≡ spec.first_unknown (unknown.seen_program sight.now) sight.now.called.now (pointed paths.now) }
+fn first_unknown<'a>(module_scope: &ModuleScope, paths: &[&'a Path]) -> Option<&'a Path>
+    requires { unknown.IsModuleScope module_scope.now }
+    ensures { option_copied result
+        ≡ spec.first_unknown (unknown.scope_program module_scope.now) module_scope.now.called.now
+        (pointed paths.now) }
 {
     for path in paths {
-        if !is_known_in(sight, path) {
+        if !is_known_in(module_scope, path) {
             return Some(path);
         }
     }
     None
 }
 
-fn is_known_in(sight: &Sight, path: &Path) -> bool
-    requires { unknown.IsSight sight.now }
-    ensures { result ≡ unknown.has_meaning (unknown.seen_program sight.now) sight.now.called.now path.now.names }
+fn is_known_in(module_scope: &ModuleScope, path: &Path) -> bool
+    requires { unknown.IsModuleScope module_scope.now }
+    ensures { result ≡ unknown.is_resolved (unknown.scope_program module_scope.now)
+        module_scope.now.called.now path.now.names }
 {
-    is_known(sight, path.names.as_slice())
+    is_known(module_scope, path.names.as_slice())
 }
 
 fn text_of_path(alloc: Global, path: &Path) -> Result<Text, NoMemory>
@@ -64,48 +67,59 @@ fn missing_path(alloc: Global, path: &Path) -> Result<MissingName, NoMemory>
 
 fn missing_of_paths(
     alloc: Global,
-    sight: &Sight,
+    module_scope: &ModuleScope,
     paths: &[&Path],
 ) -> Result<Option<MissingName>, NoMemory>
-    requires { unknown.IsSight sight.now }
+    requires { unknown.IsModuleScope module_scope.now }
     ensures { IfOk result (λ found. found
-        ≡ option_map spec.missing_path (spec.first_unknown (unknown.seen_program sight.now) sight.now.called.now (pointed paths.now))) }
+        ≡ option_map spec.missing_path
+        (spec.first_unknown (unknown.scope_program module_scope.now) module_scope.now.called.now
+        (pointed paths.now))) }
 {
-    match first_unknown(sight, paths) {
+    match first_unknown(module_scope, paths) {
         Some(path) => Ok(Some(missing_path(alloc, path)?)),
         None => Ok(None),
     }
 }
 
 /// The first name of an expression that is missing.
-fn missing_expr(alloc: Global, sight: &Sight, e: &Expr) -> Result<Option<MissingName>, NoMemory>
-    requires { unknown.IsSight sight.now }
-    ensures { IfOk result (λ found. found ≡ spec.missing_expr (unknown.seen_program sight.now) sight.now.called.now e.now) }
+fn missing_expr(
+    alloc: Global,
+    module_scope: &ModuleScope,
+    e: &Expr,
+) -> Result<Option<MissingName>, NoMemory>
+    requires { unknown.IsModuleScope module_scope.now }
+    ensures { IfOk result (λ found. found
+        ≡ spec.missing_expr (unknown.scope_program module_scope.now) module_scope.now.called.now
+        e.now) }
 {
     let mut paths = Vec::new(alloc);
     push_paths(&mut paths, e)?;
-    missing_of_paths(alloc, sight, paths.as_slice())
+    missing_of_paths(alloc, module_scope, paths.as_slice())
 }
 
 /// Whether the module declares the name.
-fn declares(sight: &Sight, name: &Text) -> bool
-    requires { unknown.IsSight sight.now }
-    ensures { result ≡ unknown.declared_in (unknown.seen_program sight.now) sight.now.called.now name.now }
+fn declares(module_scope: &ModuleScope, name: &Text) -> bool
+    requires { unknown.IsModuleScope module_scope.now }
+    ensures { result ≡ unknown.declared_in (unknown.scope_program module_scope.now)
+        module_scope.now.called.now name.now }
 {
-    sight.declared.contains(name.as_str())
+    module_scope.declared.contains(name.as_str())
 }
 
 /// A target that the module does not declare.
 fn missing_target(
     alloc: Global,
-    sight: &Sight,
+    module_scope: &ModuleScope,
     name: &Text,
     at: Span,
 ) -> Result<Option<MissingName>, NoMemory>
-    requires { unknown.IsSight sight.now }
-    ensures { IfOk result (λ found. found ≡ spec.missing_target (unknown.seen_program sight.now) sight.now.called.now at name.now) }
+    requires { unknown.IsModuleScope module_scope.now }
+    ensures { IfOk result (λ found. found
+        ≡ spec.missing_target (unknown.scope_program module_scope.now) module_scope.now.called.now
+        at name.now) }
 {
-    if declares(sight, name) {
+    if declares(module_scope, name) {
         return Ok(None);
     }
     Ok(Some(MissingName {
@@ -114,91 +128,96 @@ fn missing_target(
     }))
 }
 
-/// A target path that is missing.
+/// A TREAT's path that is missing.
 fn missing_treated(
     alloc: Global,
-    sight: &Sight,
+    module_scope: &ModuleScope,
     path: &Path,
 ) -> Result<Option<MissingName>, NoMemory>
-    requires { unknown.IsSight sight.now }
+    requires { unknown.IsModuleScope module_scope.now }
     ensures { IfOk result (λ found. found
-        ≡ option_map spec.missing_path (spec.first_unknown (unknown.seen_program sight.now) sight.now.called.now (path.now ∷ []))) }
+        ≡ option_map spec.missing_path
+        (spec.first_unknown (unknown.scope_program module_scope.now) module_scope.now.called.now
+        (path.now ∷ []))) }
 {
-    if is_known_in(sight, path) {
+    if is_known_in(module_scope, path) {
         return Ok(None);
     }
     Ok(Some(missing_path(alloc, path)?))
 }
 
-/// The first name of an action that is missing: its target comes first.
+/// The first missing name of an action, its target first.
 fn missing_action(
     alloc: Global,
-    sight: &Sight,
+    module_scope: &ModuleScope,
     at: Span,
     action: &Action,
 ) -> Result<Option<MissingName>, NoMemory>
-    requires { unknown.IsSight sight.now }
-    ensures { IfOk result (λ found. found ≡ spec.missing_action (unknown.seen_program sight.now) sight.now.called.now at action.now) }
+    requires { unknown.IsModuleScope module_scope.now }
+    ensures { IfOk result (λ found. found
+        ≡ spec.missing_action (unknown.scope_program module_scope.now) module_scope.now.called.now
+        at action.now) }
 {
     match action {
-        Action::Impose { name, right, .. } => match missing_target(alloc, sight, name, at)? {
+        Action::Impose { name, right, .. } => match missing_target(alloc, module_scope, name, at)? {
             Some(missing) => Ok(Some(missing)),
-            None => missing_expr(alloc, sight, right),
+            None => missing_expr(alloc, module_scope, right),
         },
-        Action::Treat { path, right } => match missing_treated(alloc, sight, path)? {
+        Action::Treat { path, right } => match missing_treated(alloc, module_scope, path)? {
             Some(missing) => Ok(Some(missing)),
-            None => missing_expr(alloc, sight, right),
+            None => missing_expr(alloc, module_scope, right),
         },
     }
 }
 
-/// The first name of a change that is missing in its module: those of its condition come first.
-fn missing_in_sight(
+/// The first missing name of a change in its module, those of its condition first.
+fn missing_in_scope(
     alloc: Global,
-    sight: &Sight,
+    module_scope: &ModuleScope,
     change: &Change,
 ) -> Result<Option<MissingName>, NoMemory>
-    requires sight { unknown.IsSight sight.now }
-    requires here { sight.now.called.now ≡ change.now.«module» }
-    ensures { IfOk result (λ found. found ≡ spec.first_missing (unknown.seen_program sight.now) change.now) }
+    requires module_scope { unknown.IsModuleScope module_scope.now }
+    requires here { module_scope.now.called.now ≡ change.now.«module» }
+    ensures { IfOk result (λ found. found
+        ≡ spec.first_missing (unknown.scope_program module_scope.now) change.now) }
 {
-    match missing_expr(alloc, sight, &change.cond)? {
+    match missing_expr(alloc, module_scope, &change.cond)? {
         Some(missing) => Ok(Some(missing)),
-        None => missing_action(alloc, sight, change.at, &change.action),
+        None => missing_action(alloc, module_scope, change.at, &change.action),
     }
 }
 
-fn missing_in_tree(
+fn missing_in_table(
     alloc: Global,
     program: &Program,
     scopes: &[Scope],
-    tree: &Tree,
+    table: &InstanceTable,
     change: &Change,
 ) -> Result<Option<MissingName>, NoMemory>
-    requires scopes { map scope_seen scopes.now ≡ scopes_of_program program.now }
-    requires right { IsRight program.now tree.now }
+    requires scopes { map scope_view scopes.now ≡ scopes_of_program program.now }
+    requires right { IsTableOfProgram program.now table.now }
     ensures { IfOk result (λ found. found ≡ spec.first_missing program.now change.now) }
 {
-    let standing = standing_of(alloc, tree)?;
-    let rows_by_module = RowsByModule::of_program(alloc, program, tree)?;
+    let aliases = aliases_of(alloc, table)?;
+    let rows_by_module = RowsByModule::of_program(alloc, program, table)?;
     let symbols = symbols_of(alloc, program)?;
     let numbers = modules_by_name(alloc, scopes)?;
     let name = change.module.as_str();
     let declared = declared_in(alloc, program, scopes, &numbers, name)?;
-    let known = Knowledge {
+    let known = Resolver {
         program,
-        tree,
-        standing: standing.as_slice(),
+        table,
+        aliases: aliases.as_slice(),
         rows: &rows_by_module,
         symbols: &symbols,
     };
-    let sight = Sight {
+    let module_scope = ModuleScope {
         known: &known,
         called: &change.module,
         declared: &declared,
         rows: rows_by_module.of_module(name),
     };
-    missing_in_sight(alloc, &sight, change)
+    missing_in_scope(alloc, &module_scope, change)
 }
 
 fn missing_in_scopes(
@@ -207,19 +226,19 @@ fn missing_in_scopes(
     scopes: &[Scope],
     change: &Change,
 ) -> Result<Option<MissingName>, NoMemory>
-    requires { map scope_seen scopes.now ≡ scopes_of_program program.now }
+    requires { map scope_view scopes.now ≡ scopes_of_program program.now }
     ensures { IfOk result (λ found. found ≡ spec.first_missing program.now change.now) }
 {
-    match tree_of(alloc, program, scopes, usize::MAX)? {
-        Some(tree) => missing_in_tree(alloc, program, scopes, &tree, change),
+    match instance_table(alloc, program, scopes, usize::MAX)? {
+        Some(table) => missing_in_table(alloc, program, scopes, &table, change),
         // No table in memory has that many instances.
         None => Err(NoMemory),
     }
 }
 
-/// The first name that the change uses and that is not known in its module.
+/// The first name of the change that is not known in its module.
 ///
-/// The only error is want of memory.
+/// The only error is `NoMemory`.
 pub fn first_missing(
     alloc: Global,
     program: &Program,

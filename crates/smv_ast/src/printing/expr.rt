@@ -39,16 +39,16 @@ pub fn print_range(out: &mut String, low: i64, high: i64) -> Result<(), AllocErr
     print_signed(out, high)
 }
 
-/// Writes the texts at the end of `out`, with the separator between them. The only error is want of
-/// memory.
+/// Appends the texts to `out`, with the separator between them. The only error is `AllocError`.
 pub fn print_joined(out: &mut String, separator: &str, texts: &[Text]) -> Result<(), AllocError>
-    ensures { OnOk result (string_bytes out.new ≡ string_bytes out.old ++ spec.joined separator.now texts.now) }
+    ensures { OnOk result (string_bytes out.new ≡ string_bytes out.old
+        ++ spec.joined separator.now texts.now) }
 {
-    let [first, rest @ ..] = texts else {
+    let [first, remaining @ ..] = texts else {
         return Ok(());
     };
     print_text(out, first)?;
-    for text in rest {
+    for text in remaining {
         out.push_str(separator)?;
         print_text(out, text)?;
     }
@@ -78,8 +78,8 @@ fn op_text(op: Op) -> &'static str
     }
 }
 
-fn stands_bare(e: &Expr) -> bool
-    ensures { result ≡ (spec.piece_of e.now).bare }
+fn is_primary(e: &Expr) -> bool
+    ensures { result ≡ (spec.piece_of e.now).primary }
 {
     match e {
         Expr::True
@@ -94,9 +94,10 @@ fn stands_bare(e: &Expr) -> bool
 
 #[cycle(print)]
 fn print_operand(out: &mut String, e: &Expr) -> Result<(), AllocError>
-    ensures { OnOk result (string_bytes out.new ≡ string_bytes out.old ++ spec.operand (spec.piece_of e.now)) }
+    ensures { OnOk result (string_bytes out.new ≡ string_bytes out.old
+        ++ spec.operand (spec.piece_of e.now)) }
 {
-    if stands_bare(e) {
+    if is_primary(e) {
         return print_expr(out, e);
     }
     out.push_str("(")?;
@@ -106,7 +107,8 @@ fn print_operand(out: &mut String, e: &Expr) -> Result<(), AllocError>
 
 #[cycle(print)]
 fn print_choice(out: &mut String, choice: &Choice) -> Result<(), AllocError>
-    ensures { OnOk result (string_bytes out.new ≡ string_bytes out.old ++ spec.printed_choice choice.now) }
+    ensures { OnOk result (string_bytes out.new ≡ string_bytes out.old
+        ++ spec.printed_choice choice.now) }
 {
     match choice {
         Choice::Each(parts) => {
@@ -124,11 +126,11 @@ pub fn print_listed(out: &mut String, parts: &[Expr]) -> Result<(), AllocError>
     ensures { OnOk result (string_bytes out.new
         ≡ string_bytes out.old ++ spec.listed (spec.texts (map spec.piece_of parts.now))) }
 {
-    let [first, rest @ ..] = parts else {
+    let [first, remaining @ ..] = parts else {
         return Ok(());
     };
     print_expr(out, first)?;
-    for part in rest {
+    for part in remaining {
         out.push_str(", ")?;
         print_expr(out, part)?;
     }
@@ -138,7 +140,7 @@ pub fn print_listed(out: &mut String, parts: &[Expr]) -> Result<(), AllocError>
 #[cycle(print)]
 fn print_branches(out: &mut String, branches: &[Branch]) -> Result<(), AllocError>
     ensures { OnOk result (string_bytes out.new
-        ≡ string_bytes out.old ++ spec.in_a_row (map spec.printed_branch branches.now)) }
+        ≡ string_bytes out.old ++ spec.concatenated (map spec.printed_branch branches.now)) }
 {
     for branch in branches {
         print_expr(out, &branch.cond)?;
@@ -149,7 +151,7 @@ fn print_branches(out: &mut String, branches: &[Branch]) -> Result<(), AllocErro
     Ok(())
 }
 
-/// Writes the canonical text at the end of `out`.
+/// Appends the canonical text to `out`. The only error is `AllocError`.
 #[cycle(print)]
 pub fn print_expr(out: &mut String, e: &Expr) -> Result<(), AllocError>
     ensures { OnOk result (string_bytes out.new ≡ string_bytes out.old ++ spec.printed_expr e.now) }

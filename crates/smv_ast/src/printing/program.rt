@@ -4,7 +4,7 @@ ghost use Rattle.std.specs.Prelude.{◌≡◌, ◌++◌, IfOk, OnOk, string_byte
 ghost use Rattle.std.specs.Fmt.{signed_decimal};
 ghost use Rattle.smv_ast.specs.PrintedExpr as expr;
 ghost use Rattle.smv_ast.specs.PrintedProgram as spec;
-ghost use Rattle.smv_ast.specs.Places.{SameProgram};
+ghost use Rattle.smv_ast.specs.IgnoringSpans.{SameProgram};
 ghost use Rattle.smv_ast.specs.declared.program.Program.{Program};
 
 use crate::fault::NoMemory;
@@ -22,11 +22,11 @@ fn print_numbers(out: &mut String, numbers: &[i64]) -> Result<(), AllocError>
     ensures { OnOk result (string_bytes out.new
         ≡ string_bytes out.old ++ expr.listed (map signed_decimal numbers.now)) }
 {
-    let [first, rest @ ..] = numbers else {
+    let [first, remaining @ ..] = numbers else {
         return Ok(());
     };
     print_signed(out, *first)?;
-    for number in rest {
+    for number in remaining {
         out.push_str(", ")?;
         print_signed(out, *number)?;
     }
@@ -34,7 +34,8 @@ fn print_numbers(out: &mut String, numbers: &[i64]) -> Result<(), AllocError>
 }
 
 fn print_type(out: &mut String, values: &SmvType) -> Result<(), AllocError>
-    ensures { OnOk result (string_bytes out.new ≡ string_bytes out.old ++ spec.printed_type values.now) }
+    ensures { OnOk result (string_bytes out.new ≡ string_bytes out.old
+        ++ spec.printed_type values.now) }
 {
     match values {
         SmvType::Boolean => out.push_str("boolean"),
@@ -54,7 +55,8 @@ fn print_type(out: &mut String, values: &SmvType) -> Result<(), AllocError>
 
 fn print_actuals(out: &mut String, actuals: &[Expr]) -> Result<(), AllocError>
     ensures { OnOk result (string_bytes out.new
-        ≡ string_bytes out.old ++ spec.in_parentheses (expr.texts (map expr.piece_of actuals.now))) }
+        ≡ string_bytes out.old ++ spec.in_parentheses
+        (expr.texts (map expr.piece_of actuals.now))) }
 {
     if actuals.is_empty() {
         return Ok(());
@@ -65,7 +67,8 @@ fn print_actuals(out: &mut String, actuals: &[Expr]) -> Result<(), AllocError>
 }
 
 fn print_formals(out: &mut String, formals: &[Text]) -> Result<(), AllocError>
-    ensures { OnOk result (string_bytes out.new ≡ string_bytes out.old ++ spec.in_parentheses formals.now) }
+    ensures { OnOk result (string_bytes out.new ≡ string_bytes out.old
+        ++ spec.in_parentheses formals.now) }
 {
     if formals.is_empty() {
         return Ok(());
@@ -76,7 +79,8 @@ fn print_formals(out: &mut String, formals: &[Text]) -> Result<(), AllocError>
 }
 
 fn print_declaration(out: &mut String, declaration: &Declaration) -> Result<(), AllocError>
-    ensures { OnOk result (string_bytes out.new ≡ string_bytes out.old ++ spec.declaration_line declaration.now) }
+    ensures { OnOk result (string_bytes out.new ≡ string_bytes out.old
+        ++ spec.declaration_line declaration.now) }
 {
     out.push_str("  ")?;
     print_text(out, &declaration.name)?;
@@ -92,7 +96,8 @@ fn print_declaration(out: &mut String, declaration: &Declaration) -> Result<(), 
 }
 
 fn print_left(out: &mut String, left: Left, name: &Text) -> Result<(), AllocError>
-    ensures { OnOk result (string_bytes out.new ≡ string_bytes out.old ++ spec.printed_left left name.now) }
+    ensures { OnOk result (string_bytes out.new ≡ string_bytes out.old
+        ++ spec.printed_left left name.now) }
 {
     match left {
         Left::Init => out.push_str("init(")?,
@@ -104,7 +109,8 @@ fn print_left(out: &mut String, left: Left, name: &Text) -> Result<(), AllocErro
 }
 
 fn print_assignment(out: &mut String, assignment: &Assignment) -> Result<(), AllocError>
-    ensures { OnOk result (string_bytes out.new ≡ string_bytes out.old ++ spec.assignment_line assignment.now) }
+    ensures { OnOk result (string_bytes out.new ≡ string_bytes out.old
+        ++ spec.assignment_line assignment.now) }
 {
     out.push_str("  ")?;
     print_left(out, assignment.left, &assignment.name)?;
@@ -114,7 +120,8 @@ fn print_assignment(out: &mut String, assignment: &Assignment) -> Result<(), All
 }
 
 fn print_definition(out: &mut String, definition: &Definition) -> Result<(), AllocError>
-    ensures { OnOk result (string_bytes out.new ≡ string_bytes out.old ++ spec.definition_line definition.now) }
+    ensures { OnOk result (string_bytes out.new ≡ string_bytes out.old
+        ++ spec.definition_line definition.now) }
 {
     out.push_str("  ")?;
     print_text(out, &definition.name)?;
@@ -134,7 +141,8 @@ fn print_constraint(out: &mut String, word: &str, e: &Expr) -> Result<(), AllocE
 
 fn print_declarations(out: &mut String, declarations: &[Declaration]) -> Result<(), AllocError>
     ensures { OnOk result (string_bytes out.new
-        ≡ string_bytes out.old ++ (codes "VAR\n" ++ expr.in_a_row (map spec.declaration_line declarations.now))) }
+        ≡ string_bytes out.old ++ (codes "VAR\n"
+        ++ expr.concatenated (map spec.declaration_line declarations.now))) }
 {
     out.push_str("VAR\n")?;
     for declaration in declarations {
@@ -145,7 +153,8 @@ fn print_declarations(out: &mut String, declarations: &[Declaration]) -> Result<
 
 fn print_assignments(out: &mut String, assignments: &[Assignment]) -> Result<(), AllocError>
     ensures { OnOk result (string_bytes out.new
-        ≡ string_bytes out.old ++ (codes "ASSIGN\n" ++ expr.in_a_row (map spec.assignment_line assignments.now))) }
+        ≡ string_bytes out.old ++ (codes "ASSIGN\n"
+        ++ expr.concatenated (map spec.assignment_line assignments.now))) }
 {
     out.push_str("ASSIGN\n")?;
     for assignment in assignments {
@@ -156,7 +165,8 @@ fn print_assignments(out: &mut String, assignments: &[Assignment]) -> Result<(),
 
 fn print_definitions(out: &mut String, definitions: &[Definition]) -> Result<(), AllocError>
     ensures { OnOk result (string_bytes out.new
-        ≡ string_bytes out.old ++ (codes "DEFINE\n" ++ expr.in_a_row (map spec.definition_line definitions.now))) }
+        ≡ string_bytes out.old ++ (codes "DEFINE\n"
+        ++ expr.concatenated (map spec.definition_line definitions.now))) }
 {
     out.push_str("DEFINE\n")?;
     for definition in definitions {
@@ -166,7 +176,8 @@ fn print_definitions(out: &mut String, definitions: &[Definition]) -> Result<(),
 }
 
 fn print_section(out: &mut String, section: &Section) -> Result<(), AllocError>
-    ensures { OnOk result (string_bytes out.new ≡ string_bytes out.old ++ spec.printed_section section.now) }
+    ensures { OnOk result (string_bytes out.new ≡ string_bytes out.old
+        ++ spec.printed_section section.now) }
 {
     match section {
         Section::Vars(declarations) => print_declarations(out, declarations.as_slice()),
@@ -181,7 +192,7 @@ fn print_section(out: &mut String, section: &Section) -> Result<(), AllocError>
 
 fn print_sections(out: &mut String, sections: &[Section]) -> Result<(), AllocError>
     ensures { OnOk result (string_bytes out.new
-        ≡ string_bytes out.old ++ expr.in_a_row (map spec.printed_section sections.now)) }
+        ≡ string_bytes out.old ++ expr.concatenated (map spec.printed_section sections.now)) }
 {
     for section in sections {
         print_section(out, section)?;
@@ -190,7 +201,8 @@ fn print_sections(out: &mut String, sections: &[Section]) -> Result<(), AllocErr
 }
 
 fn print_module(out: &mut String, module: &Module) -> Result<(), AllocError>
-    ensures { OnOk result (string_bytes out.new ≡ string_bytes out.old ++ spec.printed_module «module».now) }
+    ensures { OnOk result (string_bytes out.new ≡ string_bytes out.old
+        ++ spec.printed_module «module».now) }
 {
     out.push_str("MODULE ")?;
     print_text(out, &module.name)?;
@@ -201,7 +213,7 @@ fn print_module(out: &mut String, module: &Module) -> Result<(), AllocError>
 
 fn print_modules(out: &mut String, modules: &[Module]) -> Result<(), AllocError>
     ensures { OnOk result (string_bytes out.new
-        ≡ string_bytes out.old ++ expr.in_a_row (map spec.printed_module modules.now)) }
+        ≡ string_bytes out.old ++ expr.concatenated (map spec.printed_module modules.now)) }
 {
     for module in modules {
         print_module(out, module)?;
@@ -211,10 +223,10 @@ fn print_modules(out: &mut String, modules: &[Module]) -> Result<(), AllocError>
 
 /// The canonical text of a model: its modules one after another, each line ended by a line feed.
 ///
-/// The text depends on no place. The only error is want of memory.
+/// The text is independent of spans. The only error is `NoMemory`.
 pub fn print_program(alloc: Global, program: &Program) -> Result<String, NoMemory>
     ensures text { IfOk result (λ text. string_bytes text ≡ spec.printed_program program.now) }
-    ensures places_aside { IfOk result (λ text. (other : Program) →
+    ensures ignoring_spans { IfOk result (λ text. (other : Program) →
         SameProgram program.now other → string_bytes text ≡ spec.printed_program other) }
 {
     let mut out = String::new(alloc);

@@ -5,6 +5,6 @@ use Rattle.std.proofs.lemmas.Iterator.Splits.{YieldsList-from_str_split}
 use Rattle.fsmv_top.proofs.words.lists.Goals as goal
 
 pub returns : goal.returns
-returns c = any_from_yields_List (λ piece. bytes_eq piece c.args.name.now) _ _ _ c.any.ensures.ran
+returns c = any_from_yields_List (λ read_expr. bytes_eq read_expr c.args.name.now) _ _ _ c.any.ensures.ran
     (YieldsList-from_str_split 44 c.args.product.now (lit< tt) c.split.ensures.text c.split.ensures.has_more c.split.ensures.pattern)
     (λ x b q k. search (rules, tests))

@@ -12,7 +12,7 @@ loop-clause-preserved c =
     record {
       copied =
           c.in_ok-push.ensures.items
-          ∙ ap (λ (front : List (List ℕ)). front ++ c.in_ok-try_clone.field-0 ∷ []) c.loop-clause.invariant.copied
+          ∙ ap (λ (prefix : List (List ℕ)). prefix ++ c.in_ok-try_clone.field-0 ∷ []) c.loop-clause.invariant.copied
           ∙ ap (λ (copy : List ℕ). take i clauses ++ copy ∷ []) (c.in_ok-try_clone.ensures ∙ here)
           ∙ sym (take_more clauses i [] c.loop-clause-test.true);
       room = below_more (λ (k : ℕ). All (λ m. m + 1 < length c.widen.new.self) (get_or clauses k [])) i

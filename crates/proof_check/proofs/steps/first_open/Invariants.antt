@@ -3,5 +3,5 @@ use Rattle.sat_lits.specs.Literals.{negation}
 use Rattle.proof_check.specs.Marks.{marked}
 use Rattle.proof_check.proofs.steps.first_open.Given as goal
 
-abbrev pub invariant-loop-place : goal.invariant-loop-place
-invariant-loop-place l = (k : ℕ) → l.from ≤ k → k < l.place → marked l.marks (negation (slice_index l.lits k)) ≡ true
+abbrev pub invariant-loop-position : goal.invariant-loop-position
+invariant-loop-position l = (k : ℕ) → l.from ≤ k → k < l.position → marked l.marks (negation (slice_index l.lits k)) ≡ true

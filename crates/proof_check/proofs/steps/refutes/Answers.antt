@@ -24,12 +24,12 @@ insert-requires c =
 pub returns-in-Idle-clause-right : goal.returns-in-Idle-clause-right
 returns-in-Idle-clause-right c = (
   λ impossible. absurd (false≢true impossible),
-  λ whole. absurd (Refutes-stops (named c.args.axioms.now c.args.lines.now) c.loop-i.marks c.args.marks.now c.args.hints.now c.loop-i.i (Axiom 0) c.loop-i-test.true c.lits.result.now (ap Some c.lits.ensures.same ∙ c.in-Some.ensures) c.loop-i.invariant.rest c.in-Idle.ensures whole),
+  λ whole. absurd (Refutes-stops (named c.args.axioms.now c.args.lines.now) c.loop-i.marks c.args.marks.now c.args.hints.now c.loop-i.i (Axiom 0) c.loop-i-test.true c.lits.result.now (ap Some c.lits.ensures.same ∙ c.in-Some.ensures) c.loop-i.invariant.suffix c.in-Idle.ensures whole),
 )
 
 pub loop-i-preserved : goal.loop-i-preserved
 loop-i-preserved c = record {
-  rest = rw c.insert.ensures
-      (Refutes-step (named c.args.axioms.now c.args.lines.now) c.loop-i.marks c.args.marks.now c.args.hints.now c.loop-i.i (Axiom 0) c.loop-i-test.true c.lits.result.now (ap Some c.lits.ensures.same ∙ c.in-Some.ensures) c.loop-i.invariant.rest c.in-Forcing.lit (insert-requires c.before) c.in-Forcing.ensures);
+  suffix = rw c.insert.ensures
+      (Refutes-step (named c.args.axioms.now c.args.lines.now) c.loop-i.marks c.args.marks.now c.args.hints.now c.loop-i.i (Axiom 0) c.loop-i-test.true c.lits.result.now (ap Some c.lits.ensures.same ∙ c.in-Some.ensures) c.loop-i.invariant.suffix c.in-Forcing.lit (insert-requires c.before) c.in-Forcing.ensures);
   length = ap length c.insert.ensures ∙ length-set c.loop-i.marks c.in-Forcing.lit true ∙ c.loop-i.invariant.length;
 }

@@ -5,6 +5,6 @@ use Rattle.proof_check.proofs.steps.refutes.Given as goal
 
 abbrev pub invariant-loop-i : goal.invariant-loop-i
 invariant-loop-i l = record {
-  rest : Refutes (named l.axioms l.lines) (marked l.marks) (drop l.i l.hints) ↔ Refutes (named l.axioms l.lines) (marked l.fn.marks) l.hints;
+  suffix : Refutes (named l.axioms l.lines) (marked l.marks) (drop l.i l.hints) ↔ Refutes (named l.axioms l.lines) (marked l.fn.marks) l.hints;
   length : length l.marks ≡ length l.fn.marks;
 }

@@ -1,38 +1,38 @@
 use Rattle.std.proofs.Common.{◌≡◌, ℕ, List, [], ◌∷◌, ◌++◌, Option, Some, None, refl, ap, ◌∙◌, subst, inl, inr, lit<}
 use Rattle.smv_ast.specs.declared.proof.Id.{Id}
 use Rattle.smv_ast.specs.declared.proof.Id.TheVariants.{Axiom}
-use Rattle.sat_lits.specs.Steps.{numbered, Stands, IsRetirable}
+use Rattle.sat_lits.specs.Steps.{numbered, IsLive, IsRetirable}
 use Rattle.sat_lits.proofs.Numbered.{numbered-nil, numbered-append}
 use Rattle.proof_log.specs.declared.log.Line.{Line}
-use Rattle.proof_log.specs.Logged.{Logged, standing, Derives}
-use Rattle.proof_log.proofs.StandingLemmas.{status, standing-push}
+use Rattle.proof_log.specs.Logged.{Logged, live_lines, Derives}
+use Rattle.proof_log.proofs.LiveLemmas.{status, live_lines-push}
 use Rattle.proof_log.proofs.tests.derives_and_retires.Goals as goal
 
 abbrev line_of : List ℕ → List Id → Line
 line_of clause hints = record { clause = clause; hints = hints; retired = None }
 
 -- nothing stands in an empty log
-none_stands : (lines : List Line) (clause : List ℕ) → lines ≡ [] → Stands (standing lines) clause → ⊥
-none_stands lines clause empty (n, is) =
-    let at : numbered (standing []) n ≡ Some (Some clause) = subst (λ (ls : List Line). numbered (standing ls) n ≡ Some (Some clause)) empty is in
+none_is_live : (lines : List Line) (clause : List ℕ) → lines ≡ [] → IsLive (live_lines lines) clause → ⊥
+none_is_live lines clause empty (n, is) =
+    let at : numbered (live_lines []) n ≡ Some (Some clause) = subst (λ (ls : List Line). numbered (live_lines ls) n ≡ Some (Some clause)) empty is in
     let none : numbered {X = Option (List ℕ)} [] n ≡ None = numbered-nil n in
     cc
 
 -- the first line is retirable once the unit clause stands
-retirable : (start first second : Logged) (hints hints' : List Id) (id id' : Id) → start.lines ≡ [] → Derives start (2 ∷ 4 ∷ []) hints first id → Derives first (2 ∷ []) hints' second id' → IsRetirable (standing second.lines) 1
+retirable : (start first second : Logged) (hints hints' : List Id) (id id' : Id) → start.lines ≡ [] → Derives start (2 ∷ 4 ∷ []) hints first id → Derives first (2 ∷ []) hints' second id' → IsRetirable (live_lines second.lines) 1
 retirable start first second hints hints' id id' empty d d' =
-    let before : numbered (standing first.lines) 1 ≡ Some (Some (2 ∷ 4 ∷ [])) = elim d.added [
-      | inl stood ↦ absurd (none_stands start.lines (2 ∷ 4 ∷ []) empty stood.0)
+    let before : numbered (live_lines first.lines) 1 ≡ Some (Some (2 ∷ 4 ∷ [])) = elim d.added [
+      | inl stood ↦ absurd (none_is_live start.lines (2 ∷ 4 ∷ []) empty stood.0)
       | inr new ↦
-          ap (λ (log : Logged). numbered (standing log.lines) 1) new.1
-          ∙ ap (λ (ls : List Line). numbered (standing (ls ++ line_of (2 ∷ 4 ∷ []) hints ∷ [])) 1) empty
+          ap (λ (log : Logged). numbered (live_lines log.lines) 1) new.1
+          ∙ ap (λ (ls : List Line). numbered (live_lines (ls ++ line_of (2 ∷ 4 ∷ []) hints ∷ [])) 1) empty
     ] in
-    let after : numbered (standing second.lines) 1 ≡ Some (Some (2 ∷ 4 ∷ [])) = elim d'.added [
-      | inl stood ↦ ap (λ (log : Logged). numbered (standing log.lines) 1) stood.1 ∙ before
+    let after : numbered (live_lines second.lines) 1 ≡ Some (Some (2 ∷ 4 ∷ [])) = elim d'.added [
+      | inl stood ↦ ap (λ (log : Logged). numbered (live_lines log.lines) 1) stood.1 ∙ before
       | inr new ↦
-          ap (λ (log : Logged). numbered (standing log.lines) 1) new.1
-          ∙ ap (λ (xs : List (Option (List ℕ))). numbered xs 1) (standing-push first.lines (line_of (2 ∷ []) hints'))
-          ∙ numbered-append (standing first.lines) (status (line_of (2 ∷ []) hints') ∷ []) 1 (Some (2 ∷ 4 ∷ [])) before
+          ap (λ (log : Logged). numbered (live_lines log.lines) 1) new.1
+          ∙ ap (λ (xs : List (Option (List ℕ))). numbered xs 1) (live_lines-push first.lines (line_of (2 ∷ []) hints'))
+          ∙ numbered-append (live_lines first.lines) (status (line_of (2 ∷ []) hints') ∷ []) 1 (Some (2 ∷ 4 ∷ [])) before
     ] in
     record {
       clause = 2 ∷ 4 ∷ [];

@@ -3,4 +3,4 @@ use Rattle.smv_cycles.specs.HeldCycles as spec
 use Rattle.smv_cycles.proofs.texts.slot_texts.Given as goal
 
 abbrev pub invariant-loop-k : goal.invariant-loop-k
-invariant-loop-k l = l.members ++ spec.slot_texts l.tree (drop l.k-index l.circle) ≡ spec.slot_texts l.tree l.circle
+invariant-loop-k l = l.members ++ spec.slot_texts l.table (drop l.k-index l.cycle) ≡ spec.slot_texts l.table l.cycle

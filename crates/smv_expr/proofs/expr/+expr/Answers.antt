@@ -6,7 +6,7 @@ use Rattle.smv_expr.specs.Limits.Limit.{Below}
 use Rattle.smv_expr.specs.Reading.{Gives}
 use Rattle.smv_expr.specs.ExprReaders.{read_expr, read_not, read_signed_expr, read_too_deep}
 use Rattle.smv_expr.specs.Nests.{read_level, first_of}
-use Rattle.smv_expr.proofs.Turns.{deeper}
+use Rattle.smv_expr.proofs.Rounds.{deeper}
 use Rattle.smv_expr.proofs.expr.+expr.Goals as goal
 
 -- where no construct may be opened, nothing is read

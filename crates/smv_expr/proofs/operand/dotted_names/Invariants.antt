@@ -4,8 +4,8 @@ use Rattle.smv_expr.specs.Reading.{read_fold, pushed}
 use Rattle.smv_expr.specs.ExprReaders.{read_dotted_names, read_dotted}
 use Rattle.smv_expr.proofs.operand.dotted_names.Given as goal
 
-abbrev pub invariant-turns : goal.invariant-turns
-invariant-turns l = read_dotted_names l.fn.tokens ≡ read_fold (k.Dot ∷ []) read_dotted pushed l.found l.tokens
+abbrev pub invariant-rounds : goal.invariant-rounds
+invariant-rounds l = read_dotted_names l.fn.tokens ≡ read_fold (k.Dot ∷ []) read_dotted pushed l.found l.tokens
 
-abbrev pub decreases-turns : goal.decreases-turns
-decreases-turns l = length l.tokens
+abbrev pub decreases-rounds : goal.decreases-rounds
+decreases-rounds l = length l.tokens

@@ -1,8 +1,8 @@
 use Rattle.std.proofs.Common.{◌≡◌, ◌∷◌, ◌+◌, drop, sym, ap, ◌∙◌, subst}
 use Rattle.std.proofs.lemmas.List.{drop_more}
-use Rattle.smv_meaning.specs.Runs.{first_some}
+use Rattle.smv_meaning.specs.Runs.{first_fault}
 use Rattle.smv_names.specs.Unknown.{unknown_within}
-use Rattle.smv_names.proofs.TellLemmas.{tells_err}
+use Rattle.smv_meaning.proofs.FaultLemmas.{reports_err}
 use Rattle.smv_names.proofs.check.check_known.Goals as goal
 
 pub returns-in_err-check_module : goal.returns-in_err-check_module
@@ -11,4 +11,4 @@ returns-in_err-check_module c =
     let m = c.owner-item.result in
     let items = c.as_slice-owner-items.result.now in
     let split = subst (λ ms. drop i ms ≡ m ∷ drop (i + 1) ms) c.as_slice-owner-items.ensures (drop_more items i m c.loop-owner-test.true ∙ ap (λ x. x ∷ drop (i + 1) items) (sym c.owner-item.is)) in
-    tells_err _ _ _ _ _ _ (ap (first_some (unknown_within c.args.known.now.program.now)) (sym split) ∙ c.loop-owner.invariant) c.check_module.ensures c.in_err-check_module.was c.from_residual-in_err-check_module.ensures.1
+    reports_err _ _ _ _ _ _ (ap (first_fault (unknown_within c.args.known.now.program.now)) (sym split) ∙ c.loop-owner.invariant) c.check_module.ensures c.in_err-check_module.was c.from_residual-in_err-check_module.ensures.1

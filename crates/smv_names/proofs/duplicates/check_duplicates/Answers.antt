@@ -1,8 +1,8 @@
 use Rattle.std.proofs.Common.{◌≡◌, ◌∷◌, ◌+◌, drop, sym, ap, ◌∙◌, subst}
 use Rattle.std.proofs.lemmas.List.{drop_more}
 use Rattle.smv_names.specs.Sets.{in_set}
-use Rattle.smv_names.specs.Duplicates.{module_again}
-use Rattle.smv_names.proofs.TellLemmas.{tells_err}
+use Rattle.smv_names.specs.Duplicates.{duplicate_among_modules}
+use Rattle.smv_meaning.proofs.FaultLemmas.{reports_err}
 use Rattle.smv_names.proofs.duplicates.check_duplicates.Goals as goal
 
 pub returns-in_err-check_module : goal.returns-in_err-check_module
@@ -11,4 +11,4 @@ returns-in_err-check_module c =
     let m = c.owner-item.result in
     let items = c.as_slice-owner-items.result.now in
     let split = subst (λ ms. drop i ms ≡ m ∷ drop (i + 1) ms) c.as_slice-owner-items.ensures (drop_more items i m c.loop-owner-test.true ∙ ap (λ x. x ∷ drop (i + 1) items) (sym c.owner-item.is)) in
-    tells_err _ _ _ _ _ _ (ap (module_again (in_set c.loop-owner.seen)) (sym split) ∙ c.loop-owner.invariant) c.check_module.ensures c.in_err-check_module.was c.from_residual.ensures.1
+    reports_err _ _ _ _ _ _ (ap (duplicate_among_modules (in_set c.loop-owner.seen)) (sym split) ∙ c.loop-owner.invariant) c.check_module.ensures c.in_err-check_module.was c.from_residual.ensures.1

@@ -1,7 +1,7 @@
 use Rattle.std.proofs.Common.{◌≡◌, map, drop}
-use Rattle.smv_names.specs.Duplicates.{declares, stated_seen}
+use Rattle.smv_names.specs.Duplicates.{declares, declared_name_view}
 use Rattle.smv_names.specs.Sets.{in_set, and_names}
 use Rattle.smv_names.proofs.duplicates.declared_of.Given as goal
 
 abbrev pub invariant-loop-one : goal.invariant-loop-one
-invariant-loop-one l = and_names (in_set l.declared) (map (λ s. s.name) (map stated_seen (drop l.one-index l.names))) ≡ declares (map stated_seen l.names)
+invariant-loop-one l = and_names (in_set l.declared) (map (λ s. s.name) (map declared_name_view (drop l.one-index l.names))) ≡ declares (map declared_name_view l.names)

@@ -1,10 +1,10 @@
 use Rattle.std.proofs.Common.{◌≡◌, ℕ, List, drop}
 use Rattle.smv_names.specs.Modules.{number_of}
-use Rattle.smv_names.proofs.NumberLemmas.{told_or}
+use Rattle.smv_names.proofs.NumberLemmas.{number_or}
 use Rattle.smv_names.proofs.numbers.numbers_of.Given as goal
 
 abbrev pub invariant-loop-owner : goal.invariant-loop-owner
 invariant-loop-owner l = record {
   count : l.number ≡ l.owner-index;
-  told : (name : List ℕ) → told_or l.numbers l.number (drop l.owner-index l.program.modules) name ≡ number_of l.program name;
+  numbered : (name : List ℕ) → number_or l.numbers l.number (drop l.owner-index l.program.modules) name ≡ number_of l.program name;
 }

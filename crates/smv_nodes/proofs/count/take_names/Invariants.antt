@@ -1,15 +1,15 @@
 use Rattle.std.proofs.Common.{◌≡◌, drop, fold}
 use Rattle.indexmap.specs.IndexSet.{insert_key}
-use Rattle.smv_nodes.specs.Own.{plus}
-use Rattle.smv_nodes.specs.Reads as reads_spec
+use Rattle.smv_nodes.specs.Own.{saturating_add}
+use Rattle.smv_nodes.specs.Mentions as mentions_spec
 use Rattle.smv_nodes.specs.Count as spec
 use Rattle.smv_nodes.specs.Held as held
 use Rattle.smv_nodes.proofs.count.take_names.Given as goal
 
 abbrev pub invariant-loop-mention : goal.invariant-loop-mention
 invariant-loop-mention l = record {
-  whole : plus l.count 0 ≡ l.count;
-  count : plus l.count (spec.names_nodes (held.of_table l.tree) l.row (reads_spec.all_seen (drop l.mention-index l.reads))) ≡ plus l.before (spec.names_nodes (held.of_table l.tree) l.row (reads_spec.all_seen l.reads));
-  found : fold (insert_key held.same) l.found.keys (spec.shared_among (held.of_table l.tree) l.row (reads_spec.all_seen (drop l.mention-index l.reads)))
-      ≡ fold (insert_key held.same) l.fn.found.keys (spec.shared_among (held.of_table l.tree) l.row (reads_spec.all_seen l.reads));
+  whole : saturating_add l.count 0 ≡ l.count;
+  count : saturating_add l.count (spec.names_nodes (held.of_table l.table) l.row (mentions_spec.mention_views (drop l.mention-index l.mentions))) ≡ saturating_add l.before (spec.names_nodes (held.of_table l.table) l.row (mentions_spec.mention_views l.mentions));
+  found : fold (insert_key held.same) l.found.keys (spec.shared_among (held.of_table l.table) l.row (mentions_spec.mention_views (drop l.mention-index l.mentions)))
+      ≡ fold (insert_key held.same) l.fn.found.keys (spec.shared_among (held.of_table l.table) l.row (mentions_spec.mention_views l.mentions));
 }

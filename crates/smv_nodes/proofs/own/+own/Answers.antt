@@ -17,15 +17,15 @@ pub branches_nodes-loop-branch-preserved : goal.branches_nodes-loop-branch-prese
 branches_nodes-loop-branch-preserved t c =
     let b = c.branch-item.result in
     let i = c.loop-branch.branch-index in
-    let rest = drop (i + 1) c.args.branches.now in
-    let split = drop_more c.args.branches.now i b c.loop-branch-test.true ∙ ap (λ x. x ∷ rest) (sym c.branch-item.is) in
+    let tail = drop (i + 1) c.args.branches.now in
+    let split = drop_more c.args.branches.now i b c.loop-branch-test.true ∙ ap (λ x. x ∷ tail) (sym c.branch-item.is) in
     let after = c.both-found-in-loop-branch.ensures ∙ ap (spec.both c.if-conds-gt0.found) c.nodes_of-in-loop-branch.ensures in
     record {
       whole = rw c.both-found-in-loop-branch.ensures (both_none c.if-conds-gt0.found c.nodes_of-in-loop-branch.result);
       same = elim c.if-conds-gt0.branch [
-        | branches_nodes-then-conds-gt0 w ↦ next_read c.loop-branch.found c.if-conds-gt0.found _ c.loop-branch.conds c.if-conds-gt0.conds b _ rest _ split (omega (arith, w.conds-is, w.if-conds-gt0.true))
+        | branches_nodes-then-conds-gt0 w ↦ next_read c.loop-branch.found c.if-conds-gt0.found _ c.loop-branch.conds c.if-conds-gt0.conds b _ tail _ split (omega (arith, w.conds-is, w.if-conds-gt0.true))
             (w.found-is ∙ w.both-found.ensures ∙ ap (spec.both c.loop-branch.found) (w.read_branch.ensures ∙ ap spec.read_branch w.nodes_of.ensures)) after c.loop-branch.invariant.same
-        | branches_nodes-else-conds-gt0 w ↦ next_last c.loop-branch.found c.if-conds-gt0.found _ c.loop-branch.conds c.if-conds-gt0.conds b _ rest _ split (omega (arith, w.if-conds-gt0.false)) (omega (arith, w.conds-is, w.if-conds-gt0.false))
+        | branches_nodes-else-conds-gt0 w ↦ next_last c.loop-branch.found c.if-conds-gt0.found _ c.loop-branch.conds c.if-conds-gt0.conds b _ tail _ split (omega (arith, w.if-conds-gt0.false)) (omega (arith, w.conds-is, w.if-conds-gt0.false))
             w.found-is after c.loop-branch.invariant.same
       ];
     }

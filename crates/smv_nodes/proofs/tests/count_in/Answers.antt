@@ -1,5 +1,5 @@
 use Rattle.smv_meaning.proofs.NumberLemmas.{has_slots}
 use Rattle.smv_nodes.proofs.tests.count_in.Goals as goal
 
-pub standing_of-requires : goal.standing_of-requires
-standing_of-requires c = has_slots c.args.program.now c.args.tree.now c.requires
+pub aliases_of-requires : goal.aliases_of-requires
+aliases_of-requires c = has_slots c.args.program.now c.args.table.now c.requires

@@ -4,8 +4,8 @@ use Rattle.smv_expr.specs.Reading.{read_fold, pushed}
 use Rattle.smv_parse.specs.Readers.{read_definition, read_definitions, the_limit}
 use Rattle.smv_parse.proofs.sections.definitions.Given as goal
 
-abbrev pub invariant-turns : goal.invariant-turns
-invariant-turns l = read_definitions the_limit l.fn.tokens ≡ read_fold (k.Name ∷ []) (read_definition the_limit) pushed l.found l.tokens
+abbrev pub invariant-rounds : goal.invariant-rounds
+invariant-rounds l = read_definitions the_limit l.fn.tokens ≡ read_fold (k.Name ∷ []) (read_definition the_limit) pushed l.found l.tokens
 
-abbrev pub decreases-turns : goal.decreases-turns
-decreases-turns l = length l.tokens
+abbrev pub decreases-rounds : goal.decreases-rounds
+decreases-rounds l = length l.tokens

@@ -3,26 +3,26 @@ use Rattle.std.proofs.lemmas.Grind.{common_steps}
 use Rattle.smv_expr.specs.declared.kind.Kind.TheVariants as k
 use Rattle.smv_expr.specs.Reading.{pushed}
 use Rattle.smv_parse.specs.Readers.{read_next_expr, read_more_exprs, the_limit}
-use Rattle.smv_expr.proofs.Turns.{one_turn, turns_end}
+use Rattle.smv_expr.proofs.Rounds.{one_round, rounds_end}
 use Rattle.smv_parse.proofs.Consuming.{next_expr_consumes}
 use Rattle.smv_parse.proofs.sections.more_exprs.Goals as goal
 
-pub turns-init : goal.turns-init
+pub rounds-init : goal.rounds-init
 unfolding read_more_exprs
-turns-init c = search rules
+rounds-init c = search rules
 
 pub returns-in_err-one : goal.returns-in_err-one
 returns-in_err-one c =
-    let turn = c.turns.invariant ∙ one_turn (k.Comma ∷ []) (read_next_expr the_limit) pushed next_expr_consumes c.turns.found c.turns.tokens (sym c.sees.ensures ∙ c.turns-test.true) in
+    let round = c.rounds.invariant ∙ one_round (k.Comma ∷ []) (read_next_expr the_limit) pushed next_expr_consumes c.rounds.found c.rounds.tokens (sym c.sees.ensures ∙ c.rounds-test.true) in
     first_of (search rules, grind (arith, common_steps))
 
-pub turns-smaller : goal.turns-smaller
-turns-smaller c = next_expr_consumes.less c.turns.tokens c.in_ok-one.one _ c.in_ok-one.ensures
+pub rounds-smaller : goal.rounds-smaller
+rounds-smaller c = next_expr_consumes.less c.rounds.tokens c.in_ok-one.one _ c.in_ok-one.ensures
 
-pub turns-preserved : goal.turns-preserved
-turns-preserved c =
-    let turn = c.turns.invariant ∙ one_turn (k.Comma ∷ []) (read_next_expr the_limit) pushed next_expr_consumes c.turns.found c.turns.tokens (sym c.sees.ensures ∙ c.turns-test.true) in
+pub rounds-preserved : goal.rounds-preserved
+rounds-preserved c =
+    let round = c.rounds.invariant ∙ one_round (k.Comma ∷ []) (read_next_expr the_limit) pushed next_expr_consumes c.rounds.found c.rounds.tokens (sym c.sees.ensures ∙ c.rounds-test.true) in
     first_of (search rules, grind (arith, common_steps))
 
 pub returns : goal.returns
-returns c = c.turns.invariant ∙ turns_end (k.Comma ∷ []) (read_next_expr the_limit) pushed c.turns.found c.turns.tokens (sym c.sees.ensures ∙ c.turns-test.false)
+returns c = c.rounds.invariant ∙ rounds_end (k.Comma ∷ []) (read_next_expr the_limit) pushed c.rounds.found c.rounds.tokens (sym c.sees.ensures ∙ c.rounds-test.false)

@@ -4,8 +4,8 @@ use Rattle.smv_expr.specs.Reading.{read_fold, pushed}
 use Rattle.smv_parse.specs.Readers.{read_next_sign, read_more_signs, the_limit}
 use Rattle.smv_parse.proofs.types.more_signs.Given as goal
 
-abbrev pub invariant-turns : goal.invariant-turns
-invariant-turns l = read_more_signs the_limit l.fn.tokens ≡ read_fold (k.Comma ∷ []) (read_next_sign the_limit) pushed l.found l.tokens
+abbrev pub invariant-rounds : goal.invariant-rounds
+invariant-rounds l = read_more_signs the_limit l.fn.tokens ≡ read_fold (k.Comma ∷ []) (read_next_sign the_limit) pushed l.found l.tokens
 
-abbrev pub decreases-turns : goal.decreases-turns
-decreases-turns l = length l.tokens
+abbrev pub decreases-rounds : goal.decreases-rounds
+decreases-rounds l = length l.tokens

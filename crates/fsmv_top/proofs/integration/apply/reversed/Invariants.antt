@@ -1,5 +1,5 @@
 use Rattle.std.proofs.Common.{◌≡◌, ◌+◌, ◌++◌, length, reverse}
 use Rattle.fsmv_top.proofs.integration.apply.reversed.Given as goal
 
-abbrev pub invariant-loop-turn : goal.invariant-loop-turn
-invariant-loop-turn l = (reverse l.fn.changes ≡ l.turned ++ reverse l.changes) × (length l.changes + l._turn ≡ l._turn-end)
+abbrev pub invariant-loop-round : goal.invariant-loop-round
+invariant-loop-round l = (reverse l.fn.changes ≡ l.backwards ++ reverse l.changes) × (length l.changes + l._round ≡ l._round-end)

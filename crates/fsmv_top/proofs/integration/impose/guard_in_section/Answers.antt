@@ -1,14 +1,14 @@
 use Rattle.std.proofs.Common.{arith}
 use Rattle.fsmv_top.specs.Impose.{assigns, guarded_section}
-use Rattle.fsmv_top.proofs.ListLemmas.{change_first_taken, place_below}
+use Rattle.fsmv_top.proofs.ListLemmas.{change_first_taken, first_index_below}
 use Rattle.fsmv_top.proofs.integration.impose.guard_in_section.Goals as goal
 
 pub take_at-requires : goal.take_at-requires
-take_at-requires c = place_below (assigns c.args.imposed.left c.args.imposed.name) c.args.sections c.args.at c.requires
+take_at-requires c = first_index_below (assigns c.args.imposed.left c.args.imposed.name) c.args.sections c.args.at c.requires
 
 pub returns : goal.returns
 returns c =
     let i = c.args.imposed in
-    let taken = change_first_taken (assigns i.left i.name) (guarded_section i) c.args.sections c.take_at.new.list c.in_ok-section.behind c.in_ok-section.section c.args.at
-    c.in_ok-section.ensures.split c.in_ok-section.ensures.place c.requires in
+    let taken = change_first_taken (assigns i.left i.name) (guarded_section i) c.args.sections c.take_at.new.list c.in_ok-section.after_it c.in_ok-section.section c.args.at
+    c.in_ok-section.ensures.split c.in_ok-section.ensures.index c.requires in
     first_of (cc, grind arith)

@@ -1,6 +1,6 @@
 use Rattle.std.proofs.Common.{◌≡◌, List, Some, ap, arith, rules}
 use Rattle.smv_ast.specs.declared.program.Module.{Module}
-use Rattle.fsmv_top.specs.Lists.{first_place, change_first}
+use Rattle.fsmv_top.specs.Lists.{first_index, change_first}
 use Rattle.fsmv_top.specs.Impose.{is_named, imposed_in}
 use Rattle.fsmv_top.proofs.ListLemmas.{change_first_taken}
 use Rattle.fsmv_top.proofs.integration.impose.impose.Goals as goal
@@ -8,8 +8,8 @@ use Rattle.fsmv_top.proofs.integration.impose.impose.Goals as goal
 pub returns : goal.returns
 returns c =
     let modules = c.args.program.modules in
-    let found : first_place (is_named c.args.name.now) modules ≡ Some c.in-Some.at = first_of (search rules, grind arith) in
-    let taken = change_first_taken (is_named c.args.name.now) (imposed_in c.args.imposed) modules c.take_at.new.list c.in_ok-module.behind c.in_ok-module.module c.in-Some.at
-    c.in_ok-module.ensures.split c.in_ok-module.ensures.place found in
+    let found : first_index (is_named c.args.name.now) modules ≡ Some c.in-Some.at = first_of (search rules, grind arith) in
+    let taken = change_first_taken (is_named c.args.name.now) (imposed_in c.args.imposed) modules c.take_at.new.list c.in_ok-module.after_it c.in_ok-module.module c.in-Some.at
+    c.in_ok-module.ensures.split c.in_ok-module.ensures.index found in
     let same : c.append.new.self ≡ change_first (is_named c.args.name.now) (imposed_in c.args.imposed) modules = first_of (cc, grind arith) in
     ap (λ (ms : List Module). record { modules = ms }) same

@@ -1,7 +1,7 @@
 use Rattle.std.proofs.Common.{◌≡◌, false, arith, rules}
 use Rattle.std.proofs.lemmas.Grind.{common_steps}
 use Rattle.std.specs.List.{list_any}
-use Rattle.fsmv_top.specs.Lists.{IsLastPlace}
+use Rattle.fsmv_top.specs.Lists.{IsLastIndex}
 use Rattle.fsmv_top.specs.Impose.{is_assigns}
 use Rattle.fsmv_top.proofs.AssignLemmas.{with_assignment_none, with_assignment_taken}
 use Rattle.fsmv_top.proofs.integration.impose.with_assignment.Goals as goal
@@ -14,7 +14,7 @@ returns-in_default c =
 
 pub returns : goal.returns
 returns c =
-    let last : IsLastPlace is_assigns c.args.sections c.in-Some.at = search rules in
-    let whole = with_assignment_taken c.args.sections c.take_at.new.list c.in_ok-last.behind c.in_ok-last.last c.args.assignment c.in-Some.at
-    c.in_ok-last.ensures.split c.in_ok-last.ensures.place last in
+    let last : IsLastIndex is_assigns c.args.sections c.in-Some.at = search rules in
+    let whole = with_assignment_taken c.args.sections c.take_at.new.list c.in_ok-last.after_it c.in_ok-last.last c.args.assignment c.in-Some.at
+    c.in_ok-last.ensures.split c.in_ok-last.ensures.index last in
     first_of (cc, grind (arith, common_steps))

@@ -3,4 +3,4 @@ use Rattle.smv_names.specs.Sets.{in_set}
 use Rattle.fsmv_top.proofs.integration.names.declares.Goals as goal
 
 pub returns : goal.returns
-returns c = c.contains.ensures ∙ ap (in_set c.args.sight.now.declared.now) c.as_str.ensures ∙ ap (λ has. has c.args.name.now) c.requires.declared
+returns c = c.contains.ensures ∙ ap (in_set c.args.module_scope.now.declared.now) c.as_str.ensures ∙ ap (λ has. has c.args.name.now) c.requires.declared

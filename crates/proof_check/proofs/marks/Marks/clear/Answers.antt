@@ -9,7 +9,7 @@ returns c =
     let stamps = c.self.inside.stamps in
     let fresh = c.next_round-self-inside.new.stamps in
     let same : length fresh ≡ length stamps.items = c.next_round-self-inside.auto.stamps ∙ ap length c.as_mut_slice.ensures.value in
-    let flags : length stamps.items ≡ length c.args.self.now = sym (length-map stamps.items (λ stamp. stamp == c.self.inside.round)) ∙ ap length c.self.view_is in
+    let literal_set : length stamps.items ≡ length c.args.self.now = sym (length-map stamps.items (λ stamp. stamp == c.self.inside.round)) ∙ ap length c.self.view_is in
     ap (λ (items : List ℕ). map (λ stamp. stamp == c.next_round-self-inside.result) items) (with_items_is stamps fresh (same ∙ sym stamps.ok.0))
     ∙ none_fresh fresh c.next_round-self-inside.result c.next_round-self-inside.ensures.fresh
-    ∙ ap (λ n. replicate n false) (same ∙ flags)
+    ∙ ap (λ n. replicate n false) (same ∙ literal_set)

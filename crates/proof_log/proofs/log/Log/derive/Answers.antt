@@ -1,10 +1,10 @@
 use Rattle.std.proofs.Common.{◌≡◌, ◌++◌, ◌∷◌, [], ◌<◌, ◌+◌, ◌^◌, List, Some, None, ℕ, arith, refl, length, sym, ap, ◌∙◌, subst, inr}
 use Rattle.smv_ast.specs.declared.proof.Id.{Id}
-use Rattle.sat_lits.specs.Steps.{Stands}
+use Rattle.sat_lits.specs.Steps.{IsLive}
 use Rattle.sat_lits.specs.Table.{number_of, Puts}
 use Rattle.proof_log.specs.declared.log.Line.{Line}
-use Rattle.proof_log.specs.Logged.{Logged, standing}
-use Rattle.proof_log.proofs.StateLemmas.{KeepsTogether-derive, added_stands}
+use Rattle.proof_log.specs.Logged.{Logged, live_lines}
+use Rattle.proof_log.proofs.StateLemmas.{KeepsTogether-derive, added_is_live}
 use Rattle.proof_log.proofs.log.Log.derive.Goals as goal
 
 -- a line that stands
@@ -14,14 +14,14 @@ line_of clause hints = record { clause = clause; hints = hints; retired = None }
 items : (c : goal.After-push_reserved) → c.push_reserved.new.self.items ≡ c.self.inside.lines.items ++ line_of c.args.clause.now c.args.hints.now ∷ []
 items c =
     c.push_reserved.ensures.items
-    ∙ ap (λ (front : List Line). front ++ line_of c.in_ok-try_clone.field-0 c.in_ok-from_slice.field-0 ∷ []) c.reserve.ensures.items
+    ∙ ap (λ (prefix : List Line). prefix ++ line_of c.in_ok-try_clone.field-0 c.in_ok-from_slice.field-0 ∷ []) c.reserve.ensures.items
     ∙ ap (λ (clause : List ℕ). c.self.inside.lines.items ++ line_of clause c.in_ok-from_slice.field-0 ∷ []) c.in_ok-try_clone.ensures
     ∙ ap (λ (hints : List Id). c.self.inside.lines.items ++ line_of c.args.clause.now hints ∷ []) c.in_ok-from_slice.ensures
 
 absent : (c : goal.After-push_reserved) → number_of c.self.inside.numbers c.args.clause.now ≡ None
 absent c = ap (number_of c.self.inside.numbers) (sym c.lits.ensures.same) ∙ sym c.get.ensures ∙ c.in_default.is
 
-fresh : (c : goal.After-push_reserved) → Stands (standing c.self.inside.lines.items) c.args.clause.now → ⊥
+fresh : (c : goal.After-push_reserved) → IsLive (live_lines c.self.inside.lines.items) c.args.clause.now → ⊥
 fresh c (n, is) =
     let found : number_of c.self.inside.numbers c.args.clause.now ≡ Some n = c.self.invariant.index.finds c.args.clause.now n is in
     let none : number_of c.self.inside.numbers c.args.clause.now ≡ None = absent c in
@@ -47,6 +47,6 @@ returns-clause-ok c =
     rw (← c.self.view_is) (record {
       number = c.len-2.result + 1;
       answered = refl;
-      stands = rw (items c, number) (added_stands lines (line_of c.args.clause.now c.args.hints.now) refl);
+      stands = rw (items c, number) (added_is_live lines (line_of c.args.clause.now c.args.hints.now) refl);
       added = inr (fresh c, ap with_lines (items c));
     })

@@ -3,21 +3,21 @@ use Rattle.std.proofs.lemmas.List.{length-map}
 use Rattle.std.proofs.lemmas.Option.{slice_get_read}
 use Rattle.sat_lits.specs.Steps.{IsRetirable}
 use Rattle.sat_lits.specs.Table.{Puts}
-use Rattle.sat_lits.proofs.Numbered.{numbered_within, numbered-place, replaced-place}
+use Rattle.sat_lits.proofs.Numbered.{numbered_within, numbered-position, replaced-position}
 use Rattle.proof_log.specs.declared.log.Line.{Line}
-use Rattle.proof_log.specs.Logged.{Logged, standing}
-use Rattle.proof_log.proofs.StandingLemmas.{status, retired_line, standing_line}
+use Rattle.proof_log.specs.Logged.{Logged, live_lines}
+use Rattle.proof_log.proofs.LiveLemmas.{status, retired_line, live_line}
 use Rattle.proof_log.proofs.StateLemmas.{KeepsTogether-retire}
 use Rattle.proof_log.proofs.log.Log.retire.Goals as goal
 
-retirable : (c : goal.After-self-1) → IsRetirable (standing c.self.inside.lines.items) c.args.id
-retirable c = subst (λ (log : Logged). IsRetirable (standing log.lines) c.args.id) (sym c.self.view_is) c.requires
+retirable : (c : goal.After-self-1) → IsRetirable (live_lines c.self.inside.lines.items) c.args.id
+retirable c = subst (λ (log : Logged). IsRetirable (live_lines log.lines) c.args.id) (sym c.self.view_is) c.requires
 
 -- the number is one of the log's
 within : (c : goal.After-self-1) → (1 ≤ c.args.id) × (c.args.id ≤ length c.self.inside.lines.items)
 within c =
     let r = retirable c in
-    let both : (1 ≤ c.args.id) × (c.args.id ≤ length (standing c.self.inside.lines.items)) = numbered_within (standing c.self.inside.lines.items) c.args.id (Some r.clause) r.stands in
+    let both : (1 ≤ c.args.id) × (c.args.id ≤ length (live_lines c.self.inside.lines.items)) = numbered_within (live_lines c.self.inside.lines.items) c.args.id (Some r.clause) r.stands in
     (both.0, subst (λ n. c.args.id ≤ n) (length-map c.self.inside.lines.items status) both.1)
 
 -- the line that is read is the one of the number
@@ -35,8 +35,8 @@ invariant_of-self c =
     let bounds = within c in
     let positive : 1 ≤ c.args.id = bounds.0 in
     let next : c.args.id ≡ suc (c.args.id - 1) = omega arith in
-    let r : IsRetirable (standing lines) (suc (c.args.id - 1)) = subst (IsRetirable (standing lines)) next (retirable c) in
-    let found = standing_line lines (c.args.id - 1) r.clause r.stands in
+    let r : IsRetirable (live_lines lines) (suc (c.args.id - 1)) = subst (IsRetirable (live_lines lines)) next (retirable c) in
+    let found = live_line lines (c.args.id - 1) r.clause r.stands in
     let here : slice_get lines (c.args.id - 1) ≡ Some line = read c in
     let there : slice_get lines (c.args.id - 1) ≡ Some found.0 = found.1 in
     let same : found.0 ≡ line = cc in
@@ -54,6 +54,6 @@ returns c =
     let with_lines : List Line → Logged = λ ls. record { axioms = c.self.inside.axioms.items; lines = ls } in
     rw (← c.self.view_is) (record {
       line = line;
-      was = numbered-place lines c.args.id bounds.0 ∙ read c;
-      marked = ap with_lines (ap (λ n. set lines (c.args.id - 1) (retired_line line n)) count ∙ sym (replaced-place lines c.args.id (retired_line line (length lines)) bounds.0));
+      was = numbered-position lines c.args.id bounds.0 ∙ read c;
+      marked = ap with_lines (ap (λ n. set lines (c.args.id - 1) (retired_line line n)) count ∙ sym (replaced-position lines c.args.id (retired_line line (length lines)) bounds.0));
     })

@@ -9,17 +9,17 @@ loop-lit-preserved c =
     let old = c.loop-lit.invariant in
     let lit = c.lit-item.result in
     let here : get_or c.args.lits.now c.loop-lit.lit-index lit ≡ lit = sym c.lit-item.is in
-    let places = c.args.self.now.places.items in
-    let placed : (variable_of lit < length places) × (get_or places (variable_of lit) 0 < length c.args.self.now.flags.items)
-    = subst (λ (l : ℕ). (variable_of l < length places) × (get_or places (variable_of l) 0 < length c.args.self.now.flags.items)) here (c.requires.placed c.loop-lit.lit-index lit c.loop-lit-test.true) in
-    let place : ℕ = c.place_of-place.result in
-    let at : place ≡ get_or places (variable_of lit) 0 = c.place_of-place.ensures.place ∙ ap (λ v. get_or v.items (variable_of lit) 0) old.places in
-    let room : place < length c.loop-lit.self.flags.items = omega (arith, placed.1, old.sized) in
+    let positions = c.args.self.now.positions.items in
+    let positioned : (variable_of lit < length positions) × (get_or positions (variable_of lit) 0 < length c.args.self.now.seen.items)
+    = subst (λ (l : ℕ). (variable_of l < length positions) × (get_or positions (variable_of l) 0 < length c.args.self.now.seen.items)) here (c.requires.positioned c.loop-lit.lit-index lit c.loop-lit-test.true) in
+    let position : ℕ = c.position_of-position.result in
+    let at : position ≡ get_or positions (variable_of lit) 0 = c.position_of-position.ensures.position ∙ ap (λ v. get_or v.items (variable_of lit) 0) old.positions in
+    let room : position < length c.loop-lit.self.seen.items = omega (arith, positioned.1, old.sized) in
     record {
-      sized = ap length c.mark_place.ensures.flags ∙ length-set c.loop-lit.self.flags.items place true ∙ old.sized;
-      places = c.mark_place.ensures.places ∙ old.places;
-      start = c.mark_place.ensures.start ∙ old.start;
-      lowest = subst (λ (n : ℕ). IsLowest c.mark_place.new.self.flags.items n c.mark_place.new.self.lowest) (sym c.mark_place.ensures.start) c.mark_place.ensures.lowest;
-      first = subst (λ (fs : List Bool). MarksFirst c.args.self.now.places.items c.args.lits.now (c.loop-lit.lit-index + 1) c.args.self.now.flags.items fs) (sym c.mark_place.ensures.flags)
-          (MarksFirst-more c.args.self.now.places.items c.args.lits.now c.loop-lit.lit-index lit place c.args.self.now.flags.items c.loop-lit.self.flags.items c.loop-lit-test.true here at room old.first);
+      sized = ap length c.mark_position.ensures.seen ∙ length-set c.loop-lit.self.seen.items position true ∙ old.sized;
+      positions = c.mark_position.ensures.positions ∙ old.positions;
+      start = c.mark_position.ensures.start ∙ old.start;
+      lowest = subst (λ (n : ℕ). IsLowest c.mark_position.new.self.seen.items n c.mark_position.new.self.lowest) (sym c.mark_position.ensures.start) c.mark_position.ensures.lowest;
+      first = subst (λ (fs : List Bool). MarksFirst c.args.self.now.positions.items c.args.lits.now (c.loop-lit.lit-index + 1) c.args.self.now.seen.items fs) (sym c.mark_position.ensures.seen)
+          (MarksFirst-more c.args.self.now.positions.items c.args.lits.now c.loop-lit.lit-index lit position c.args.self.now.seen.items c.loop-lit.self.seen.items c.loop-lit-test.true here at room old.first);
     }

@@ -5,9 +5,9 @@ use Rattle.sat_analyze.proofs.marks.Marks.mark.Given as goal
 
 abbrev pub invariant-loop-lit : goal.invariant-loop-lit
 invariant-loop-lit l = record {
-  sized : length l.self.flags.items ≡ length l.fn.self.flags.items;
-  places : l.self.places ≡ l.fn.self.places;
+  sized : length l.self.seen.items ≡ length l.fn.self.seen.items;
+  positions : l.self.positions ≡ l.fn.self.positions;
   start : l.self.start ≡ l.fn.self.start;
-  lowest : IsLowest l.self.flags.items l.self.start l.self.lowest;
-  first : MarksFirst l.fn.self.places.items l.lits l.lit-index l.fn.self.flags.items l.self.flags.items;
+  lowest : IsLowest l.self.seen.items l.self.start l.self.lowest;
+  first : MarksFirst l.fn.self.positions.items l.lits l.lit-index l.fn.self.seen.items l.self.seen.items;
 }

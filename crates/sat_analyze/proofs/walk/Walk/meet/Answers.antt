@@ -1,7 +1,7 @@
 use Rattle.std.proofs.Common.{◌≡◌, ◌↔◌, ◌⊎◌, ◌++◌, ◌∷◌, ℕ, List, [], get_or, subst, sym, ap, ◌∙◌, refl}
 use Rattle.std.proofs.lemmas.List.{get_or_default, get_or-map}
 use Rattle.sat_arena.specs.Stored.{Stored}
-use Rattle.sat_analyze.specs.Marked.{IsMarked, IsPlaceOf, IsLowest}
+use Rattle.sat_analyze.specs.Marked.{IsMarked, IsPositionOf, IsLowest}
 use Rattle.sat_analyze.proofs.WalkLemmas.{met_clause}
 use Rattle.sat_analyze.proofs.walk.Walk.meet.Goals as goal
 
@@ -19,10 +19,10 @@ returns c =
       met = met;
       within = c.requires.within;
       there = there;
-      exact = λ i. subst (λ (lits : List ℕ). IsMarked c.mark.new.self.flags.items i ↔ (IsMarked c.args.self.now.marks.flags.items i ⊎ IsPlaceOf c.args.self.now.marks.places.items lits i)) clause (c.mark.ensures.exact i);
+      exact = λ i. subst (λ (lits : List ℕ). IsMarked c.mark.new.self.seen.items i ↔ (IsMarked c.args.self.now.marks.seen.items i ⊎ IsPositionOf c.args.self.now.marks.positions.items lits i)) clause (c.mark.ensures.exact i);
       sized = c.mark.ensures.sized;
-      lowest = subst (λ (n : ℕ). IsLowest c.mark.new.self.flags.items n c.mark.new.self.lowest) (sym c.mark.ensures.start) c.mark.ensures.lowest;
-      places = c.mark.ensures.places;
+      lowest = subst (λ (n : ℕ). IsLowest c.mark.new.self.seen.items n c.mark.new.self.lowest) (sym c.mark.ensures.start) c.mark.ensures.lowest;
+      positions = c.mark.ensures.positions;
       start = c.mark.ensures.start;
       hints = hints;
       kept = refl;

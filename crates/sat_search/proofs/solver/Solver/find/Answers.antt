@@ -4,22 +4,23 @@ use Rattle.std.specs.Option.{option_map}
 use Rattle.std.proofs.lemmas.Result.{MatchResult-from_err, on_err_weaker}
 use Rattle.proof_log.specs.Logged.{Logged}
 use Rattle.sat_arena.specs.Trails.{marked}
+use Rattle.sat_arena.specs.TrailState.{TrailState}
 use Rattle.sat_search.specs.Assumed.{assumed}
 use Rattle.sat_search.specs.Sessions.{Answers, AddsLines}
 use Rattle.sat_search.specs.Founds.{HasValues, IsFound, named_by}
 use Rattle.sat_search.specs.declared.answer.Answer.{Answer}
 use Rattle.sat_search.specs.declared.found.Found.{Found}
-use Rattle.sat_search.proofs.RunLemmas.{GoesOn-refl}
-use Rattle.sat_search.proofs.FoundLemmas.{AddsLines-goes_on, AddsLines-run, flagged_clause, Answers-run, HasVariables-run}
+use Rattle.sat_search.proofs.RunLemmas.{ContinuesTo-refl}
+use Rattle.sat_search.proofs.FoundLemmas.{AddsLines-continues, AddsLines-run, set_clause, Answers-run, HasVariables-run}
 use Rattle.sat_search.proofs.solver.Solver.find.Goals as goal
 
-pub returns-in_err-flags-clause-err : goal.returns-in_err-flags-clause-err
-returns-in_err-flags-clause-err c =
-    MatchResult-from_err _ _ _ c.from_residual.ensures.0 (λ _. AddsLines-goes_on c.args.assumptions.now c.args.self.now.log c.args.self.now.log c.args.most None (GoesOn-refl c.args.self.now.log c.args.most))
+pub returns-in_err-literal_set-clause-err : goal.returns-in_err-literal_set-clause-err
+returns-in_err-literal_set-clause-err c =
+    MatchResult-from_err _ _ _ c.from_residual.ensures.0 (λ _. AddsLines-continues c.args.assumptions.now c.args.self.now.log c.args.self.now.log c.args.most None (ContinuesTo-refl c.args.self.now.log c.args.most))
 
 pub returns-in_err-answer-clause-err : goal.returns-in_err-answer-clause-err
 returns-in_err-answer-clause-err c =
-    MatchResult-from_err _ _ _ c.from_residual-in_err-answer.ensures.0 (λ _. AddsLines-goes_on c.args.assumptions.now c.args.self.now.log c.run.new.self.log c.args.most None c.in_err-answer.ensures.err)
+    MatchResult-from_err _ _ _ c.from_residual-in_err-answer.ensures.0 (λ _. AddsLines-continues c.args.assumptions.now c.args.self.now.log c.run.new.self.log c.args.most None c.in_err-answer.ensures.err)
 
 pub returns-clause-variables : goal.returns-clause-variables
 returns-clause-variables c =
@@ -42,20 +43,21 @@ returns-clause-ok c =
     let old = c.args.self.now.log in
     let new = c.run.new.self in
     let answer = c.in_ok-answer.answer in
-    let vars : c.args.vars ≡ new.trail.vars = c.requires.vars ∙ sym c.run.ensures.vars in
-    let same : (l : ℕ) → marked c.deref.result.now l ≡ assumed lits l = λ l. ap (λ flags. marked flags l) c.deref.ensures.value ∙ c.in_ok-flags.ensures l in
-    both c.with_values.result (λ (found : Found). found.answer ≡ answer) (λ (found : Found). HasValues new.trail.entries c.args.vars answer (option_map (λ values. values.items) found.values)) (IsFound lits old new.log c.args.most)
+    let vars : c.args.vars ≡ new.propagator.vars = c.requires.vars ∙ sym c.run.ensures.vars in
+    let same : (l : ℕ) → marked c.deref.result.now l ≡ assumed lits l = λ l. ap (λ literal_set. marked literal_set l) c.deref.ensures.value ∙ c.in_ok-literal_set.ensures l in
+    both c.with_values.result (λ (found : Found). found.answer ≡ answer) (λ (found : Found). HasValues new.propagator.entries c.args.vars answer (option_map (λ values. values.items) found.values)) (IsFound lits old new.log c.args.most)
     (λ found is has. found_ok lits old new.log c.args.most answer found is
     (Answers-run c.deref.result.now lits same old new c.args.most answer (option_map (λ values. values.items) found.values) c.in_ok-answer.ensures.solver c.in_ok-answer.ensures.ok
-    (subst (λ (n : ℕ). HasValues new.trail.entries n answer (option_map (λ values. values.items) found.values)) vars has))
-    (AddsLines-run (marked c.deref.result.now) lits (flagged_clause c.deref.result.now lits same) old new c.args.most answer c.in_ok-answer.ensures.ok))
-    c.with_values.ensures.answer c.with_values.ensures.values
+    (subst (λ (n : ℕ). HasValues new.propagator.entries n answer (option_map (λ values. values.items) found.values)) vars has))
+    (AddsLines-run (marked c.deref.result.now) lits (set_clause c.deref.result.now lits same) old new c.args.most answer c.in_ok-answer.ensures.ok))
+    c.with_values.ensures.answer
+    (subst (λ (t : TrailState). IfOk c.with_values.result (λ (found : Found). HasValues t.entries c.args.vars answer (option_map (λ values. values.items) found.values))) c.trail.ensures c.with_values.ensures.values)
 
 pub returns-clause-err : goal.returns-clause-err
 returns-clause-err c =
     let lits = c.args.assumptions.now in
-    let same : (l : ℕ) → marked c.deref.result.now l ≡ assumed lits l = λ l. ap (λ flags. marked flags l) c.deref.ensures.value ∙ c.in_ok-flags.ensures l in
+    let same : (l : ℕ) → marked c.deref.result.now l ≡ assumed lits l = λ l. ap (λ literal_set. marked literal_set l) c.deref.ensures.value ∙ c.in_ok-literal_set.ensures l in
     on_err_weaker c.with_values.result
     (λ is. subst (λ (a : Answer). AddsLines lits c.args.self.now.log c.run.new.self.log c.args.most (named_by a)) is
-    (AddsLines-run (marked c.deref.result.now) lits (flagged_clause c.deref.result.now lits same) c.args.self.now.log c.run.new.self c.args.most c.in_ok-answer.answer c.in_ok-answer.ensures.ok))
+    (AddsLines-run (marked c.deref.result.now) lits (set_clause c.deref.result.now lits same) c.args.self.now.log c.run.new.self c.args.most c.in_ok-answer.answer c.in_ok-answer.ensures.ok))
     c.with_values.ensures.cause

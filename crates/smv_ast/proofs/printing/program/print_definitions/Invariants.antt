@@ -4,4 +4,4 @@ use Rattle.smv_ast.specs.PrintedProgram as spec
 use Rattle.smv_ast.proofs.printing.program.print_definitions.Given as goal
 
 abbrev pub invariant-loop-definition : goal.invariant-loop-definition
-invariant-loop-definition l = string_bytes l.out ++ expr.in_a_row (map spec.definition_line (drop l.definition-index l.definitions)) ≡ string_bytes l.fn.out ++ codes "DEFINE\n" ++ expr.in_a_row (map spec.definition_line l.definitions)
+invariant-loop-definition l = string_bytes l.out ++ expr.concatenated (map spec.definition_line (drop l.definition-index l.definitions)) ≡ string_bytes l.fn.out ++ codes "DEFINE\n" ++ expr.concatenated (map spec.definition_line l.definitions)

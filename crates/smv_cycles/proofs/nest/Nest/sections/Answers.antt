@@ -1,5 +1,5 @@
 use Rattle.std.proofs.Common.{sym, ◌∙◌, arith}
-use Rattle.smv_meaning.proofs.ItemLemmas.{first_here, first_behind}
+use Rattle.smv_meaning.proofs.FirstFault.{first_here, first_after}
 use Rattle.smv_cycles.specs.Cycles as spec
 use Rattle.smv_cycles.specs.HeldNests as nests
 use Rattle.smv_cycles.proofs.nest.Nest.sections.Goals as goal
@@ -11,5 +11,5 @@ returns-in-Some c =
 
 pub loop-section-preserved : goal.loop-section-preserved
 loop-section-preserved c =
-    sym (first_behind (nests.nested_item c.args.self.now) spec.nest_items c.args.sections.now c.loop-section.section-index c.section-item.result (omega arith) c.section-item.is
+    sym (first_after (nests.nested_item c.args.self.now) spec.nest_items c.args.sections.now c.loop-section.section-index c.section-item.result (omega arith) c.section-item.is
     (sym c.in_ok-at.ensures ∙ c.in-None.is)) ∙ c.loop-section.invariant

@@ -5,19 +5,19 @@ use Rattle.smv_expr.proofs.Lexemes.{Fits}
 use Rattle.smv_expr.proofs.NextToken.{first_token, next_fits}
 use Rattle.smv_expr.proofs.cursor.Cursor.advance.Goals as goal
 
-pub behind-requires : goal.behind-requires
-behind-requires c = (next_fits c.self.inside c.in-Some.next c.self.invariant c.in-Some.is).within
+pub text_after-requires : goal.text_after-requires
+text_after-requires c = (next_fits c.self.inside c.in-Some.next c.self.invariant c.in-Some.is).within
 
 pub overflow_add-self-inside : goal.overflow_add-self-inside
 overflow_add-self-inside c =
-    let fits : Fits c.self.inside.rest.now c.in-Some.next = next_fits c.self.inside c.in-Some.next c.self.invariant c.in-Some.is in
+    let fits : Fits c.self.inside.remaining.now c.in-Some.next = next_fits c.self.inside c.in-Some.next c.self.invariant c.in-Some.is in
     omega (arith, c.self.invariant.0)
 
 pub cursor_at-requires : goal.cursor_at-requires
 cursor_at-requires c =
-    let fits : Fits c.self.inside.rest.now c.in-Some.next = next_fits c.self.inside c.in-Some.next c.self.invariant c.in-Some.is in
-    omega (arith, c.self.invariant.0, ap length c.behind.ensures, length-drop c.in-Some.next.len c.self.inside.rest.now)
+    let fits : Fits c.self.inside.remaining.now c.in-Some.next = next_fits c.self.inside c.in-Some.next c.self.invariant c.in-Some.is in
+    omega (arith, c.self.invariant.0, ap length c.text_after.ensures, length-drop c.in-Some.next.len c.self.inside.remaining.now)
 
 pub returns : goal.returns
-returns c = c.self-2.view_is ∙ c.cursor_at.ensures ∙ ap (tokens_from c.self.inside.file (c.self.inside.at + c.in-Some.next.len)) c.behind.ensures
+returns c = c.self-2.view_is ∙ c.cursor_at.ensures ∙ ap (tokens_from c.self.inside.file (c.self.inside.at + c.in-Some.next.len)) c.text_after.ensures
     ∙ ap (λ (ts : Tokens). drop 1 ts) (sym (first_token c.self.inside c.in-Some.next c.self.invariant c.in-Some.is) ∙ c.self.view_is)

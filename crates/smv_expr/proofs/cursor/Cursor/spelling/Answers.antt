@@ -6,7 +6,7 @@ use Rattle.smv_expr.proofs.NextToken.{next_fits, name_is_ascii, left_out_is_asci
 use Rattle.smv_expr.proofs.cursor.Cursor.spelling.Goals as goal
 
 pub slice_bounds-result-end : goal.slice_bounds-result-end
-slice_bounds-result-end c = sym (length-take-le c.in-Some.next.len c.self.inside.rest.now (next_fits c.self.inside c.in-Some.next c.self.invariant c.in-Some.is).within)
+slice_bounds-result-end c = sym (length-take-le c.in-Some.next.len c.self.inside.remaining.now (next_fits c.self.inside c.in-Some.next c.self.invariant c.in-Some.is).within)
 
 pub returns-clause-name : goal.returns-clause-name
 returns-clause-name c = λ h. name_is_ascii c.self.inside c.in-Some.next c.self.invariant c.in-Some.is (ap (begins (k.Name ∷ [])) c.self.view_is ∙ h)

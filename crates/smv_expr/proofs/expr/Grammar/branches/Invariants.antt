@@ -4,8 +4,8 @@ use Rattle.smv_expr.specs.Reading.{read_fold, pushed}
 use Rattle.smv_expr.specs.ExprReaders.{first_expr, read_expr, read_not, read_signed_expr, read_branch, read_branches}
 use Rattle.smv_expr.proofs.expr.Grammar.branches.Given as goal
 
-abbrev pub invariant-turns : goal.invariant-turns
-invariant-turns g l = read_branches (read_expr l.self.depth) (read_not l.self.depth) (read_signed_expr l.self.depth) (Below l.bound) l.fn.tokens ≡ read_fold first_expr (read_branch (read_expr l.self.depth) (read_not l.self.depth) (read_signed_expr l.self.depth) (Below l.bound)) pushed l.found l.tokens
+abbrev pub invariant-rounds : goal.invariant-rounds
+invariant-rounds g l = read_branches (read_expr l.self.depth) (read_not l.self.depth) (read_signed_expr l.self.depth) (Below l.bound) l.fn.tokens ≡ read_fold first_expr (read_branch (read_expr l.self.depth) (read_not l.self.depth) (read_signed_expr l.self.depth) (Below l.bound)) pushed l.found l.tokens
 
-abbrev pub decreases-turns : goal.decreases-turns
-decreases-turns g l = length l.tokens
+abbrev pub decreases-rounds : goal.decreases-rounds
+decreases-rounds g l = length l.tokens

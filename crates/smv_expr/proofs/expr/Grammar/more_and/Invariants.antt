@@ -8,8 +8,8 @@ use Rattle.smv_expr.specs.Reading.{read_more}
 use Rattle.smv_expr.specs.ExprReaders.{read_expr, read_not, read_signed_expr, read_and_item, read_more_and}
 use Rattle.smv_expr.proofs.expr.Grammar.more_and.Given as goal
 
-abbrev pub invariant-turns : goal.invariant-turns
-invariant-turns g l = read_more_and (read_expr l.self.depth) (read_not l.self.depth) (read_signed_expr l.self.depth) (Below l.bound) l.fn.first l.fn.tokens ≡ read_more (kinds_of and_operators) never_ends (λ b. read_and_item (read_expr l.self.depth) (read_not l.self.depth) (read_signed_expr l.self.depth) (beside (height b) (Below l.bound))) joined l.left l.tokens
+abbrev pub invariant-rounds : goal.invariant-rounds
+invariant-rounds g l = read_more_and (read_expr l.self.depth) (read_not l.self.depth) (read_signed_expr l.self.depth) (Below l.bound) l.fn.first l.fn.tokens ≡ read_more (kinds_of and_operators) never_ends (λ b. read_and_item (read_expr l.self.depth) (read_not l.self.depth) (read_signed_expr l.self.depth) (beside (height b) (Below l.bound))) joined l.left l.tokens
 
-abbrev pub decreases-turns : goal.decreases-turns
-decreases-turns g l = length l.tokens
+abbrev pub decreases-rounds : goal.decreases-rounds
+decreases-rounds g l = length l.tokens

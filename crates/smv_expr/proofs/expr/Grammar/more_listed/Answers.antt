@@ -4,26 +4,26 @@ use Rattle.smv_expr.specs.declared.kind.Kind.TheVariants as k
 use Rattle.smv_expr.specs.Limits.Limit.{Below}
 use Rattle.smv_expr.specs.Reading.{pushed}
 use Rattle.smv_expr.specs.ExprReaders.{read_expr, read_not, read_signed_expr, read_listed, read_more_listed}
-use Rattle.smv_expr.proofs.Turns.{one_turn, turns_end}
-use Rattle.smv_expr.proofs.ExprTurns.{listed_consumes}
+use Rattle.smv_expr.proofs.Rounds.{one_round, rounds_end}
+use Rattle.smv_expr.proofs.ExprRounds.{listed_consumes}
 use Rattle.smv_expr.proofs.expr.Grammar.more_listed.Goals as goal
 
-pub turns-init : goal.turns-init
+pub rounds-init : goal.rounds-init
 unfolding read_more_listed
-turns-init g c = search rules
+rounds-init g c = search rules
 
 pub returns-in_err-one : goal.returns-in_err-one
 returns-in_err-one g c =
-    let turn = c.turns.invariant ∙ one_turn (k.Comma ∷ []) (read_listed (read_expr c.args.self.now.depth) (read_not c.args.self.now.depth) (read_signed_expr c.args.self.now.depth) (Below c.args.bound)) pushed (listed_consumes c.args.self.now.depth c.args.bound c.requires.small) c.turns.found c.turns.tokens (sym c.sees.ensures ∙ c.turns-test.true) in
+    let round = c.rounds.invariant ∙ one_round (k.Comma ∷ []) (read_listed (read_expr c.args.self.now.depth) (read_not c.args.self.now.depth) (read_signed_expr c.args.self.now.depth) (Below c.args.bound)) pushed (listed_consumes c.args.self.now.depth c.args.bound c.requires.small) c.rounds.found c.rounds.tokens (sym c.sees.ensures ∙ c.rounds-test.true) in
     first_of (search rules, grind (arith, common_steps))
 
-pub turns-smaller : goal.turns-smaller
-turns-smaller g c = (listed_consumes c.args.self.now.depth c.args.bound c.requires.small).less c.turns.tokens c.in_ok-one.one _ c.in_ok-one.ensures
+pub rounds-smaller : goal.rounds-smaller
+rounds-smaller g c = (listed_consumes c.args.self.now.depth c.args.bound c.requires.small).less c.rounds.tokens c.in_ok-one.one _ c.in_ok-one.ensures
 
-pub turns-preserved : goal.turns-preserved
-turns-preserved g c =
-    let turn = c.turns.invariant ∙ one_turn (k.Comma ∷ []) (read_listed (read_expr c.args.self.now.depth) (read_not c.args.self.now.depth) (read_signed_expr c.args.self.now.depth) (Below c.args.bound)) pushed (listed_consumes c.args.self.now.depth c.args.bound c.requires.small) c.turns.found c.turns.tokens (sym c.sees.ensures ∙ c.turns-test.true) in
+pub rounds-preserved : goal.rounds-preserved
+rounds-preserved g c =
+    let round = c.rounds.invariant ∙ one_round (k.Comma ∷ []) (read_listed (read_expr c.args.self.now.depth) (read_not c.args.self.now.depth) (read_signed_expr c.args.self.now.depth) (Below c.args.bound)) pushed (listed_consumes c.args.self.now.depth c.args.bound c.requires.small) c.rounds.found c.rounds.tokens (sym c.sees.ensures ∙ c.rounds-test.true) in
     first_of (search rules, grind (arith, common_steps))
 
 pub returns : goal.returns
-returns g c = c.turns.invariant ∙ turns_end (k.Comma ∷ []) (read_listed (read_expr c.args.self.now.depth) (read_not c.args.self.now.depth) (read_signed_expr c.args.self.now.depth) (Below c.args.bound)) pushed c.turns.found c.turns.tokens (sym c.sees.ensures ∙ c.turns-test.false)
+returns g c = c.rounds.invariant ∙ rounds_end (k.Comma ∷ []) (read_listed (read_expr c.args.self.now.depth) (read_not c.args.self.now.depth) (read_signed_expr c.args.self.now.depth) (Below c.args.bound)) pushed c.rounds.found c.rounds.tokens (sym c.sees.ensures ∙ c.rounds-test.false)

@@ -8,8 +8,8 @@ use Rattle.smv_expr.specs.Reading.{read_more}
 use Rattle.smv_expr.specs.ExprReaders.{read_expr, read_not, read_signed_expr, read_in_choice, read_more_within}
 use Rattle.smv_expr.proofs.expr.Grammar.more_within.Given as goal
 
-abbrev pub invariant-turns : goal.invariant-turns
-invariant-turns g l = read_more_within (read_expr l.self.depth) (read_not l.self.depth) (read_signed_expr l.self.depth) (Below l.bound) l.fn.first l.fn.tokens ≡ read_more (k.In ∷ []) is_closed (λ b. read_in_choice (read_expr l.self.depth) (read_not l.self.depth) (read_signed_expr l.self.depth) (beside (height b.0) (Below l.bound))) within_operand l.left l.tokens
+abbrev pub invariant-rounds : goal.invariant-rounds
+invariant-rounds g l = read_more_within (read_expr l.self.depth) (read_not l.self.depth) (read_signed_expr l.self.depth) (Below l.bound) l.fn.first l.fn.tokens ≡ read_more (k.In ∷ []) is_closed (λ b. read_in_choice (read_expr l.self.depth) (read_not l.self.depth) (read_signed_expr l.self.depth) (beside (height b.0) (Below l.bound))) within_operand l.left l.tokens
 
-abbrev pub decreases-turns : goal.decreases-turns
-decreases-turns g l = length l.tokens
+abbrev pub decreases-rounds : goal.decreases-rounds
+decreases-rounds g l = length l.tokens

@@ -4,5 +4,5 @@ use Rattle.smv_meaning.proofs.sections.SectionsByName.of_row.Goals as goal
 
 pub returns : goal.returns
 returns c =
-    let at : c.index-rows-row.result ≡ get_or c.args.tree.now.rows c.args.row c.index-rows-row.result = rw c.as_slice-rows.ensures at c.index-rows-row.is in
-    (rw (← c.index-rows-row.is) at c.of_link.ensures) ∙ row_is c.args.program.now c.args.tree.now c.args.self.now c.args.row c.index-rows-row.result c.requires.right c.requires.tells c.requires.row at
+    let at : c.index-rows-row.result ≡ get_or c.args.table.now.rows c.args.row c.index-rows-row.result = rw c.as_slice-rows.ensures at c.index-rows-row.is in
+    (rw (← c.index-rows-row.is) at c.of_link.ensures) ∙ row_is c.args.program.now c.args.table.now c.args.self.now c.args.row c.index-rows-row.result c.requires.right c.requires.is_of c.requires.row at

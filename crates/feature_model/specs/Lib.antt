@@ -1,0 +1,9 @@
+pub mod Products
+pub mod Constraints
+pub mod Validity
+pub mod PartialProducts
+pub mod Lookaheads
+pub mod Findings
+pub mod WellFormed
+pub mod FirstValid
+pub mod Formula

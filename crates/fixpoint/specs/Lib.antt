@@ -1,0 +1,2 @@
+pub mod Fixpoints
+pub mod OptionOrder

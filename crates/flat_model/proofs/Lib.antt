@@ -1,0 +1,16 @@
+pub mod Attributes
+pub mod Operands
+pub mod Products
+pub mod VariableLemmas
+pub mod NodeIntervals
+pub mod InInterval
+pub mod Filling
+pub mod NodeLists
+pub mod Reading
+pub mod MachineLemmas
+pub mod Induction
+pub mod Completeness
+pub mod FlatMachineLemmas
+pub mod Settling
+pub mod Examples
+pub mod SoundExamples

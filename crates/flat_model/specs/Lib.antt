@@ -1,0 +1,9 @@
+pub mod Numbers
+pub mod Variables
+pub mod Nodes
+pub mod Evaluation
+pub mod Intervals
+pub mod Soundness
+pub mod Products
+pub mod Machines
+pub mod FlatMachine

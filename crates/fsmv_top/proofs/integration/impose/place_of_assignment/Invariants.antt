@@ -1,8 +1,0 @@
-use Rattle.std.proofs.Common.{◌≡◌, ◌+◌, drop}
-use Rattle.std.specs.Option.{option_map}
-use Rattle.fsmv_top.specs.Lists.{first_place}
-use Rattle.fsmv_top.specs.Impose as spec
-use Rattle.fsmv_top.proofs.integration.impose.place_of_assignment.Given as goal
-
-abbrev pub invariant-loop-i : goal.invariant-loop-i
-invariant-loop-i l = first_place (spec.has_left l.left l.name) l.assignments ≡ option_map (λ k. k + l.i) (first_place (spec.has_left l.left l.name) (drop l.i l.assignments))

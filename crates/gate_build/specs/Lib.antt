@@ -1,0 +1,4 @@
+pub mod Circuits
+pub mod Meaning
+pub mod Numbering
+pub mod GatesState

@@ -1,0 +1,5 @@
+pub mod RankLemmas
+pub mod CycleLemmas
+pub mod WayLemmas
+pub mod Renaming
+pub mod Acyclic

@@ -1,0 +1,7 @@
+use Rattle.std.proofs.Common.{◌≡◌, ◌<◌, ◌≤◌, ℕ, true, slice_index}
+use Rattle.sat_lits.specs.Literals.{negation}
+use Rattle.sat_arena.specs.Trails.{true_in}
+use Rattle.sat_arena.proofs.status.first_open.Given as goal
+
+abbrev pub invariant-loop-index : goal.invariant-loop-index
+invariant-loop-index l = (k : ℕ) → l.from ≤ k → k < l.index → true_in l.trail.entries (negation (slice_index l.lits k)) ≡ true

@@ -1,9 +1,0 @@
--- What propagation had done at each level before the newest one.
-use Rattle.std.specs.Prelude.{ℕ, ◌<◌, List, All}
-use Rattle.sat_arena.specs.declared.trail.Assigned.{Assigned}
-use Rattle.sat_arena.specs.Trails.{told, up_to}
-use Rattle.sat_arena.specs.Settled.{IsSettled}
-
--- at each level below this one, propagation had found nothing more to do
-abbrev pub IsSettledBelow : ℕ → List Assigned → List (List ℕ) → Type 0
-IsSettledBelow level entries clauses = (k : ℕ) → k < level → All (IsSettled (told (up_to k entries))) clauses

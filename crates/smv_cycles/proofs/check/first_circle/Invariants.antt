@@ -1,6 +1,0 @@
-use Rattle.std.proofs.Common.{◌≡◌, drop}
-use Rattle.smv_cycles.specs.HeldCycles as held
-use Rattle.smv_cycles.proofs.check.first_circle.Given as goal
-
-abbrev pub invariant-loop-row : goal.invariant-loop-row
-invariant-loop-row l = held.first_circle l.tree l.loops.graph.now (drop l.row-index l.order) ≡ held.first_circle l.tree l.loops.graph.now l.order

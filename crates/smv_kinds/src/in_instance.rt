@@ -1,0 +1,103 @@
+//! The facts of expressions, aliases of instances, and sorts of variables, all in one instance.
+
+ghost use Rattle.std.specs.Prelude.{◌≡◌, IfOk};
+ghost use Rattle.std.specs.Option.{is_some, option_map};
+ghost use Rattle.fixpoint.specs.Fixpoints.{entry};
+ghost use Rattle.smv_meaning.specs.Slots as slots;
+ghost use Rattle.smv_meaning.specs.Paths as paths;
+ghost use Rattle.smv_meaning.specs.Entries.{entity_view};
+ghost use Rattle.smv_kinds.specs.ItemRules as requirement;
+ghost use Rattle.smv_kinds.specs.SortsOfNames as readings;
+ghost use Rattle.smv_kinds.specs.Rules as spec;
+
+use crate::context::{KindContext, Reader};
+use crate::expressions::facts_of;
+use crate::facts::{Facts, suits};
+use crate::instance_context::InstanceContext;
+use crate::sorts::{Sort, type_sort};
+use smv_ast::{Expr, NoMemory, Text};
+use smv_meaning::aliases::entry_of;
+use smv_meaning::entries::Entity;
+use std::alloc::Global;
+
+/// The facts of an expression in an instance.
+pub fn facts_here<'t>(
+    alloc: Global,
+    instance: &InstanceContext<'t>,
+    e: &Expr,
+) -> Result<Facts, NoMemory>
+    ensures { IfOk result (λ f. f ≡ spec.facts_here instance.now e.now) }
+{
+    let reader = Reader {
+        context: instance.context,
+        solution: instance.solution,
+        row: instance.row,
+    };
+    let facts = facts_of(alloc, &reader, e)?;
+    Ok(facts)
+}
+
+/// The instance that a path of an instance resolves to.
+fn walk<'t>(context: &KindContext<'t>, start: usize, names: &[Text]) -> Option<usize>
+    ensures { result ≡ paths.walked
+        (slots.by_slot context.now.table.now (entry context.now.aliases.now)) start names.now }
+{
+    let mut row = start;
+    for name in names {
+        match entry_of(context.table, context.aliases, row, name.as_str()) {
+            Some(below) => row = below,
+            None => return None,
+        }
+    }
+    Some(row)
+}
+
+/// The instance that an expression denotes, if it is a path to one.
+fn aliased<'t>(context: &KindContext<'t>, row: usize, e: &Expr) -> Option<usize>
+    ensures { result ≡ paths.aliased
+        (slots.by_slot context.now.table.now (entry context.now.aliases.now)) row e.now }
+{
+    match e {
+        Expr::Name(path) => walk(context, row, path.names.as_slice()),
+        _ => None,
+    }
+}
+
+/// Whether an expression is a path to an instance, or to a formal that is an alias of one.
+pub fn is_instance<'t>(instance: &InstanceContext<'t>, e: &Expr) -> bool
+    ensures { result ≡ readings.is_instance (spec.program_of instance.now) (spec.instance_of instance.now)
+        e.now }
+{
+    let found = aliased(instance.context, instance.row, e);
+    found.is_some()
+}
+
+/// The sort of a variable, if the entity is one.
+fn target_sort(entity: Option<Entity>) -> Option<Sort>
+    ensures { result ≡ readings.target_sort (option_map entity_view entity.entry) }
+{
+    match entity {
+        Some(Entity::Variable(type_)) => Some(type_sort(type_)),
+        _ => None,
+    }
+}
+
+/// The sort of a variable of an instance, if the name is one.
+fn target_here<'t>(instance: &InstanceContext<'t>, name: &str) -> Option<Sort>
+    ensures { result ≡ readings.target_in (spec.program_of instance.now) (spec.instance_of instance.now)
+        name.now }
+{
+    let rows = instance.context.table.rows.as_slice();
+    target_sort(rows[instance.row].entity_of(name))
+}
+
+/// Whether an expression may be assigned to a name.
+pub fn is_assignable<'t>(instance: &InstanceContext<'t>, name: &str, facts: Facts) -> bool
+    ensures { result ≡ requirement.assignable
+        (readings.target_in (spec.program_of instance.now) (spec.instance_of instance.now) name.now) facts }
+{
+    match target_here(instance, name) {
+        Some(sort) => suits(Some(sort), facts),
+        None => true,
+    }
+}

@@ -1,3 +1,0 @@
-pub mod Loops
-pub mod LoopsGrowing
-pub mod Ranks

@@ -1,6 +1,0 @@
-use Rattle.std.proofs.Common.{◌∙◌}
-use Rattle.smv_meaning.proofs.ItemLemmas.{own_is}
-use Rattle.smv_meaning.proofs.items.own_value.Goals as goal
-
-pub returns : goal.returns
-returns c = c.in_ok-found.ensures ∙ own_is c.args.net.now c.args.row c.args.view c.args.name.now c.requires

@@ -1,0 +1,248 @@
+//! The valuation of a written state: the values of the names of instances.
+
+ghost use Rattle.std.specs.Prelude.{◌≡◌, IfOk, List, ℕ, Some, None, slice_get};
+ghost use Rattle.fixpoint.specs.Fixpoints.{entry};
+ghost use Rattle.smv_meaning.specs.Slots as slots;
+ghost use Rattle.smv_meaning.specs.Runs.{state_of, written_value};
+ghost use Rattle.smv_meaning.specs.Valuation as valuation;
+
+use crate::aliases::resolve;
+use crate::evaluation::{Reader, value};
+use crate::instance_texts::text_below;
+use crate::mentions::push_paths;
+use crate::run::{Named, RunState};
+use crate::symbols::symbol_of;
+use crate::table::{Binding, InstanceTable};
+use crate::value::Value;
+use fixpoint::{Step, fill};
+use smv_ast::{Expr, List, NoMemory, Path, Program, Text};
+use sqlite_items::at;
+use std::alloc::Global;
+
+/// The value that a written state has for the text of a path; of two the first takes precedence.
+fn written_value_of(alloc: Global, values: &[Named], text: &str) -> Result<Option<Value>, NoMemory>
+    ensures { IfOk result (λ v. v ≡ written_value values.now text.now) }
+{
+    for named in values {
+        if named.path.as_str() == text {
+            return Ok(Some(named.value.try_clone(alloc)?));
+        }
+    }
+    Ok(None)
+}
+
+/// The context of a run: the instance table of the program, with the data that every state shares.
+#[derive(Drop)]
+pub struct RunContext<'t> {
+    pub program: &'t Program,
+    pub table: &'t InstanceTable<'t, 't>,
+    /// The instance that each slot is an alias of.
+    pub aliases: &'t [Option<usize>],
+    /// The text of the path of each instance.
+    pub texts: &'t [Text],
+    ghost has: { slots.HasSlots table.now },
+    ghost is_of: { slots.AreAliases table.now aliases.now },
+    ghost spells: { valuation.SpellsNames table.now.rows texts.now },
+}
+
+/// The text of the path of a name, if there is such an instance.
+fn name_text(
+    alloc: Global,
+    context: &RunContext,
+    row: usize,
+    name: &str,
+) -> Result<Option<Text>, NoMemory>
+    ensures { IfOk result (λ t. t
+        ≡ valuation.name_text context.now.table.now (record { instance = row; name = name.now })) }
+{
+    let Some(found) = at(context.table.rows.as_slice(), row).copied() else {
+        return Ok(None);
+    };
+    match at(context.texts, row) {
+        Some(text) => Ok(Some(text_below(alloc, found.link, text.as_str(), name)?)),
+        None => Ok(None),
+    }
+}
+
+/// The value that a written state has for a variable.
+pub fn variable_value(
+    alloc: Global,
+    context: &RunContext,
+    written: &RunState,
+    row: usize,
+    name: &str,
+) -> Result<Option<Value>, NoMemory>
+    ensures { IfOk result (λ v. v
+        ≡ valuation.variable_at context.now.table.now (state_of written.now)
+        (record { instance = row; name = name.now })) }
+{
+    match name_text(alloc, context, row, name)? {
+        Some(text) => written_value_of(alloc, written.values.as_slice(), text.as_str()),
+        None => Ok(None),
+    }
+}
+
+/// The environment of an instance, by a table of the values of slots.
+#[derive(Drop)]
+pub struct RowReader<'t> {
+    pub context: &'t RunContext<'t>,
+    pub row: usize,
+    pub solution: &'t [Option<Value>],
+}
+
+impl<'t> Reader for RowReader<'t> {
+    ghost use Rattle.smv_meaning.specs.Valuation.{row_environment};
+
+    ghost reads = { λ me. row_environment me.context.now.program.now me.context.now.table.now
+        me.solution.now me.row };
+
+    fn read(&self, alloc: Global, path: &Path) -> Result<Option<Value>, NoMemory> {
+        let context = self.context;
+        match resolve(
+            context.table,
+            context.aliases,
+            self.row,
+            path.names.as_slice(),
+        ) {
+            Some(slot) => table_value(alloc, self.solution, slot),
+            None => symbol_of(alloc, context.program, path.names.as_slice()),
+        }
+    }
+}
+
+/// The value that a table has for a slot.
+fn table_value(
+    alloc: Global,
+    solution: &[Option<Value>],
+    slot: usize,
+) -> Result<Option<Value>, NoMemory>
+    ensures { IfOk result (λ v. v ≡ entry solution.now slot) }
+{
+    match at(solution, slot) {
+        Some(Some(value)) => Ok(Some(value.try_clone(alloc)?)),
+        _ => Ok(None),
+    }
+}
+
+/// The transfer function of the valuation of a written state.
+#[derive(Drop)]
+struct ValuationStep<'t> {
+    context: &'t RunContext<'t>,
+    written: &'t RunState,
+}
+
+impl<'t> ValuationStep<'t> {
+    fn read_in(
+        &self,
+        alloc: Global,
+        solution: &[Option<Value>],
+        row: usize,
+        e: &Expr,
+    ) -> Result<Option<Value>, NoMemory>
+        ensures { IfOk result (λ v. v
+            ≡ valuation.read_row self.now.context.now.program.now self.now.context.now.table.now
+            solution.now row e.now) }
+    {
+        let reader = RowReader {
+            context: self.context,
+            row,
+            solution,
+        };
+        value(alloc, &reader, &reader, e)
+    }
+}
+
+/// The first slot that an expression of an instance reads and that the table doesn't know, if there is
+/// one.
+fn unknown_in(
+    alloc: Global,
+    context: &RunContext,
+    solution: &[Option<Value>],
+    row: usize,
+    e: &Expr,
+) -> Result<Option<usize>, NoMemory> {
+    let mut paths = Vec::new(alloc);
+    push_paths(&mut paths, e)?;
+    for path in paths.as_slice() {
+        let names = path.names.as_slice();
+        if let Some(slot) = resolve(context.table, context.aliases, row, names) {
+            if !matches!(at(solution, slot), Some(Some(_))) {
+                return Ok(Some(slot));
+            }
+        }
+    }
+    Ok(None)
+}
+
+impl<'t> Step<Value> for ValuationStep<'t> {
+    ghost use Rattle.smv_meaning.specs.Runs.{state_of};
+    ghost use Rattle.smv_meaning.specs.Valuation.{valuation_slots};
+    ghost use Rattle.smv_meaning.specs.StepMonotone.{valuation_slots_monotone};
+
+    ghost step = { λ me. valuation_slots me.context.now.program.now me.context.now.table.now
+        (state_of me.written.now) };
+
+    ghost monotone = { λ me. valuation_slots_monotone me.context.now.program.now
+        me.context.now.table.now (state_of me.written.now) };
+
+    fn step(
+        &self,
+        alloc: Global,
+        solution: &[Option<Value>],
+        k: usize,
+    ) -> Result<Option<Value>, NoMemory> {
+        let Some(slot) = at(self.context.table.slots.as_slice(), k).copied() else {
+            return Ok(None);
+        };
+        match slot.binding {
+            Binding::Variable => {
+                variable_value(
+                    alloc,
+                    self.context,
+                    self.written,
+                    slot.row,
+                    slot.name.as_str(),
+                )
+            }
+            Binding::Define(right) => self.read_in(alloc, solution, slot.row, right),
+            Binding::Formal(outer, actual) => self.read_in(alloc, solution, outer, actual),
+            _ => Ok(None),
+        }
+    }
+
+    fn awaited(
+        &self,
+        alloc: Global,
+        solution: &[Option<Value>],
+        k: usize,
+    ) -> Result<Option<usize>, NoMemory> {
+        let Some(slot) = at(self.context.table.slots.as_slice(), k).copied() else {
+            return Ok(None);
+        };
+        match slot.binding {
+            Binding::Define(right) => unknown_in(alloc, self.context, solution, slot.row, right),
+            Binding::Formal(outer, actual) => {
+                unknown_in(alloc, self.context, solution, outer, actual)
+            }
+            _ => Ok(None),
+        }
+    }
+}
+
+/// The value of each slot in a written state.
+pub fn value_of_binding(
+    alloc: Global,
+    context: &RunContext,
+    written: &RunState,
+) -> Result<List<Option<Value>>, NoMemory>
+    ensures { IfOk result (λ solution. valuation.IsValuationTable context.now.program.now
+        context.now.table.now (state_of written.now) solution) }
+{
+    let solution = fill(
+        alloc,
+        &ValuationStep { context, written },
+        context.table.slots.len(),
+        &[],
+    )?;
+    Ok(solution)
+}

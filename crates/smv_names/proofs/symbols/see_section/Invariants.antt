@@ -1,8 +1,0 @@
-use Rattle.std.proofs.Common.{◌≡◌, drop}
-use Rattle.std.specs.List.{flat_map}
-use Rattle.smv_names.specs.Sets.{in_set, and_names}
-use Rattle.smv_names.specs.Unknown.{declared_symbols, section_symbols}
-use Rattle.smv_names.proofs.symbols.see_section.Given as goal
-
-abbrev pub invariant-loop-declaration : goal.invariant-loop-declaration
-invariant-loop-declaration l = and_names (in_set l.names) (flat_map (λ d. declared_symbols d.what) (drop l.declaration-index l.declaration-items)) ≡ and_names (in_set l.fn.names) (section_symbols l.section)

@@ -1,6 +1,0 @@
-use Rattle.smv_nodes.specs.Held as held
-use Rattle.smv_nodes.proofs.CountLemmas.{Progress}
-use Rattle.smv_nodes.proofs.count.count_pieces.Given as goal
-
-abbrev pub invariant-loop-k : goal.invariant-loop-k
-invariant-loop-k l = Progress (held.of_table l.tree) (held.all_seen l.pieces) l.found.keys l.k l.count
