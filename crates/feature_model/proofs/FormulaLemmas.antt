@@ -1,6 +1,6 @@
 -- The formula of a feature model is true of just its valid products.
 use Rattle.std.proofs.Common.{◌≡◌, ◌≢◌, ℕ, ◌+◌, ◌^◌, ◌<◌, ◌≤◌, Bool, true, false, not, ◌&&◌, ◌||◌, cond, ltb, List, [], ◌∷◌, ◌++◌, length, get_or, map, fold, Some, None, zero, suc, refl, sym, ap, ◌∙◌, subst, arith}
-use Rattle.smv_ast.specs.declared.fault.NoMemory.{NoMemory}
+use Rattle.fsmv_base.specs.declared.no_memory.NoMemory.{NoMemory}
 use Rattle.std.specs.Prelude.{◌↔◌, Result, Ok, Err, IfOk, IsTrue, All, Any, AllPairs}
 use Rattle.std.specs.Bool.{beq}
 use Rattle.std.specs.List.{flat_map, position_or_len, AllByRecursion, list_any}

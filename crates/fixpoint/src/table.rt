@@ -4,7 +4,7 @@ ghost use Rattle.std.specs.Prelude.{Option, ◌≡◌, ℕ, ◌+◌, ◌<◌, �
 ghost use Rattle.fixpoint.specs.Fixpoints.{entry, filled, IsSoundTable, IsClosed, fixpoint};
 
 use crate::waiting::Waiting;
-use smv_ast::{List, NoMemory};
+use fsmv_base::{List, NoMemory};
 use sqlite_items::at;
 use std::alloc::Global;
 

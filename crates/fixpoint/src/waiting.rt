@@ -1,6 +1,6 @@
 //! Which numbers are to be looked at again. It saves time only, so nothing is promised of it.
 
-use smv_ast::NoMemory;
+use fsmv_base::NoMemory;
 use std::alloc::Global;
 
 /// The numbers that wait until another one is known, and the numbers that have become known.

@@ -17,6 +17,3 @@ pub use model::{Flat, FlatSpec};
 pub use nodes::FlatNode;
 pub use traces::{State, Trace};
 pub use variables::{FlatVar, Values};
-
-#[cfg(test)]
-mod tests;

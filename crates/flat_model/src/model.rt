@@ -2,7 +2,7 @@
 
 use crate::nodes::FlatNode;
 use crate::variables::FlatVar;
-use smv_ast::{List, Text};
+use fsmv_base::{List, Text};
 
 /// An invariant of one instance.
 #[derive(Drop)]

@@ -1,6 +1,6 @@
 //! States of a flat model, and lists of them.
 
-use smv_ast::List;
+use fsmv_base::List;
 
 /// A state: for each variable that is no feature, in their order, the position of its value.
 #[derive(Debug, Drop)]

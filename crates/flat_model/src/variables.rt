@@ -1,6 +1,6 @@
 //! The variables of a flat model.
 
-use smv_ast::{List, Text};
+use fsmv_base::{List, Text};
 
 /// The numbers that a variable may take, in the order of their positions.
 #[derive(Drop)]

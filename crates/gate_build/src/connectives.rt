@@ -5,8 +5,8 @@ ghost use Rattle.gate_build.specs.Meaning.{Computes, either, differ, chosen, all
 ghost use Rattle.gate_build.specs.Numbering.{or_of, xor_of, mux_of, all_of, any_of};
 
 use crate::gates::Gates;
+use fsmv_base::NoMemory;
 use sat_lits::Lit;
-use smv_ast::NoMemory;
 
 impl Gates {
     /// The disjunction of two literals. After `NoMemory` the circuit is unchanged.

@@ -6,9 +6,9 @@ ghost use Rattle.sat_lits.specs.Clauses.{HasRisingVariables};
 ghost use Rattle.gate_build.specs.Circuits.{clauses_of_gate};
 ghost use Rattle.gate_build.specs.Numbering.{pair_eq};
 
+use fsmv_base::NoMemory;
 use indexmap::IndexMap;
 use sat_lits::{Clause, Lit};
-use smv_ast::NoMemory;
 use std::alloc::Global;
 
 /// The outputs of gates by their operands, the operand of the lower code first.

@@ -7,8 +7,8 @@ ghost use Rattle.gate_build.specs.Numbering.{input_of, and_of, output_of, IsShar
 
 use crate::definition::{Outputs, clause, define};
 use crate::simplify::{simplify, sort_pair};
+use fsmv_base::NoMemory;
 use sat_lits::{Clause, Lit};
-use smv_ast::NoMemory;
 use std::alloc::Global;
 use std::marker::Model;
 

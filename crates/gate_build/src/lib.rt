@@ -8,6 +8,3 @@ mod gates;
 mod simplify;
 
 pub use gates::Gates;
-
-#[cfg(test)]
-mod tests;

@@ -6,7 +6,7 @@ ghost use Rattle.graph.specs.Graphs as spec;
 use crate::reach::Reach;
 use crate::way::is_way;
 use crate::way_back::way_back;
-use smv_ast::{List, NoMemory};
+use fsmv_base::{List, NoMemory};
 use std::alloc::Global;
 
 /// The vertex that follows `k` on the cycle of the goal, behind these vertices.

@@ -11,6 +11,3 @@ mod way;
 mod way_back;
 
 pub use search::Search;
-
-#[cfg(test)]
-mod tests;

@@ -3,7 +3,7 @@
 ghost use Rattle.std.specs.Prelude.{◌≡◌, IsTrue};
 ghost use Rattle.graph.specs.Ranks as spec;
 
-use smv_ast::List;
+use fsmv_base::List;
 use sqlite_items::at;
 
 /// The rank of a vertex.

@@ -6,7 +6,7 @@ ghost use Rattle.fixpoint.specs.Fixpoints.{entry};
 ghost use Rattle.graph.specs.Graphs as spec;
 
 use fixpoint::{Step, fill};
-use smv_ast::{List, NoMemory};
+use fsmv_base::{List, NoMemory};
 use sqlite_items::at;
 use std::alloc::Global;
 

@@ -8,7 +8,7 @@ use crate::cycle::cycle_of;
 use crate::ranks::{are_ranks, is_above};
 use crate::reach::Reach;
 use crate::visits::{Visits, visit_all};
-use smv_ast::{List, NoMemory};
+use fsmv_base::{List, NoMemory};
 use sqlite_items::at;
 use std::alloc::Global;
 

@@ -1,7 +1,7 @@
 //! The depth-first search: a trail of vertices that goes on along the edges of its last one. It saves
 //! time only, so nothing is promised of it.
 
-use smv_ast::{List, NoMemory};
+use fsmv_base::{List, NoMemory};
 use sqlite_items::at;
 use std::alloc::Global;
 

@@ -3,7 +3,7 @@
 //! it: what is said of ranks is tested where it is used.
 
 use crate::trail::{Advance, Trail, put, repeated};
-use smv_ast::{List, NoMemory};
+use fsmv_base::{List, NoMemory};
 use sqlite_items::at;
 use std::alloc::Global;
 

@@ -4,7 +4,7 @@ ghost use Rattle.std.specs.Prelude.{◌≡◌, IsTrue, length};
 ghost use Rattle.fixpoint.specs.Fixpoints.{entry};
 ghost use Rattle.graph.specs.Ways as spec;
 
-use smv_ast::List;
+use fsmv_base::List;
 use sqlite_items::at;
 
 /// A way that is to lead back to its first vertex.

@@ -3,7 +3,7 @@
 
 use crate::trail::{Advance, Trail, put, repeated};
 use crate::way::Way;
-use smv_ast::{List, NoMemory};
+use fsmv_base::{List, NoMemory};
 use sqlite_items::at;
 use std::alloc::Global;
 

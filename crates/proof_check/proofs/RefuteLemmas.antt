@@ -1,7 +1,7 @@
 -- One hint of a refutation.
 use Rattle.std.proofs.Common.{◌≡◌, ℕ, Bool, true, List, ◌∷◌, Option, Some, refl, inl, inr, get_or, drop, length, ◌<◌, ◌+◌, sym, ◌∙◌, subst, add-one, ◌↔◌, set, arith, All}
 use Rattle.std.proofs.Math.Seq.{drop-cons}
-use Rattle.smv_ast.specs.declared.proof.Id.{Id}
+use Rattle.fsmv_base.specs.declared.citation.Id.{Id}
 use Rattle.sat_lits.specs.Steps.{IsFalsified, Forces, with, Refutes}
 use Rattle.proof_check.specs.Marks.{marked}
 use Rattle.proof_check.proofs.MarkLemmas.{marked-set}

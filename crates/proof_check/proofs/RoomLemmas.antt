@@ -2,8 +2,8 @@
 use Rattle.std.proofs.Common.{◌≡◌, ℕ, List, [], ◌∷◌, ◌++◌, Option, Some, None, arith, refl, ◌⊎◌, ◌<◌, ◌≤◌, ◌+◌, inl, inr, length, get_or, sym, ◌∙◌, ap, subst, zero, suc}
 use Rattle.std.specs.Prelude.{All, option_and_then}
 use Rattle.std.proofs.lemmas.Option.{get_or_from_slice_get, slice_get_within}
-use Rattle.smv_ast.specs.declared.proof.Id.{Id}
-use Rattle.smv_ast.specs.declared.proof.Id.TheVariants.{Axiom, Derived}
+use Rattle.fsmv_base.specs.declared.citation.Id.{Id}
+use Rattle.fsmv_base.specs.declared.citation.Id.TheVariants.{Axiom, Derived}
 use Rattle.std.proofs.lemmas.Bool.{cases_eq}
 use Rattle.sat_lits.specs.Clauses.{Follows}
 use Rattle.sat_lits.specs.Steps.{numbered, named, replaced}

@@ -1,6 +1,6 @@
 -- A step that is judged over equal lists.
 use Rattle.std.proofs.Common.{◌≡◌, ℕ, List, Option, subst}
-use Rattle.smv_ast.specs.declared.proof.Id.{Id}
+use Rattle.fsmv_base.specs.declared.citation.Id.{Id}
 use Rattle.sat_lits.specs.Steps.{IsRupStep}
 
 pub IsRupStep-same : {axioms axioms' : List (List ℕ)} {lines lines' : List (Option (List ℕ))} {clause clause' : List ℕ} {hints hints' : List Id} → axioms ≡ axioms' → lines ≡ lines' → clause ≡ clause' → hints ≡ hints' → IsRupStep axioms lines clause hints → IsRupStep axioms' lines' clause' hints'

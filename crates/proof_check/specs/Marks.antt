@@ -1,6 +1,6 @@
 use Rattle.std.specs.Prelude.{◌≡◌, ℕ, ◌+◌, ◌<◌, Bool, false, List, Option, Some, slice_index_or, All}
 use Rattle.sat_lits.specs.Steps.{named}
-use Rattle.smv_ast.specs.declared.proof.Id.{Id}
+use Rattle.fsmv_base.specs.declared.citation.Id.{Id}
 
 -- the literals whose insert_all is set
 abbrev pub marked : List Bool → (ℕ → Bool)

@@ -7,8 +7,8 @@ use crate::lines::{DerivedLine, LogLine, StepAnswer, StepRule};
 use crate::live::LiveLines;
 use crate::marks::Marks;
 use crate::steps::is_rup_step;
+use fsmv_base::NoMemory;
 use sat_lits::Clause;
-use smv_ast::NoMemory;
 use std::alloc::Global;
 use std::marker::Model;
 

@@ -9,6 +9,3 @@ mod steps;
 
 pub use checker::Checker;
 pub use lines::{DerivedLine, LogLine, StepAnswer, StepRule};
-
-#[cfg(test)]
-mod tests;

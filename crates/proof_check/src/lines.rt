@@ -1,7 +1,7 @@
 //! The lines of a log, and what is answered to one.
 
+use fsmv_base::{Id, List};
 use sat_lits::Clause;
-use smv_ast::{Id, List};
 
 /// A line that derives a clause by unit propagation through the clauses of its hints.
 #[derive(Debug, Drop)]

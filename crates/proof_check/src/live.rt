@@ -4,8 +4,8 @@ ghost use Rattle.std.specs.Bool.{OnTrue, OnFalse};
 ghost use Rattle.sat_lits.specs.Steps.{IsLive, HoldsUnit, IsRedundant, IsRetirable, replaced};
 ghost use Rattle.proof_check.specs.UnitEntry.{HasUnitEntry};
 
+use fsmv_base::NoMemory;
 use sat_lits::{Clause, ClauseTable, Lit};
-use smv_ast::NoMemory;
 use std::alloc::Global;
 use std::marker::Model;
 

@@ -2,8 +2,8 @@
 ghost use Rattle.std.specs.Prelude.{◌≡◌, ◌+◌, ◌<◌, ◌≤◌, true, false, [], length, replicate, slice_set, All, OnOk};
 ghost use Rattle.proof_check.specs.Marks.{marked};
 
+use fsmv_base::NoMemory;
 use sat_lits::Lit;
-use smv_ast::NoMemory;
 use std::alloc::Global;
 use std::marker::Model;
 

@@ -8,8 +8,8 @@ ghost use Rattle.proof_check.specs.Marks.{marked, HasRoom};
 ghost use Rattle.proof_check.specs.Status.{HasStatus};
 
 use crate::marks::Marks;
+use fsmv_base::Id;
 use sat_lits::{Clause, Lit};
-use smv_ast::Id;
 
 /// What becomes of a clause under a set of literals that were made true.
 pub enum Status {

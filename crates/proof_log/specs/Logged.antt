@@ -1,7 +1,7 @@
 -- A log, and what its calls make of it.
 use Rattle.std.specs.Prelude.{◌≡◌, ℕ, List, [], ◌∷◌, ◌++◌, Option, Some, None, length, map, take, nat_lt, if◌then◌else◌, ◌⊎◌}
-use Rattle.smv_ast.specs.declared.proof.Id.{Id}
-use Rattle.smv_ast.specs.declared.proof.Id.TheVariants.{Derived}
+use Rattle.fsmv_base.specs.declared.citation.Id.{Id}
+use Rattle.fsmv_base.specs.declared.citation.Id.TheVariants.{Derived}
 use Rattle.sat_lits.specs.Steps.{numbered, replaced, IsLive}
 use Rattle.proof_log.specs.declared.log.Line.{Line}
 

@@ -4,6 +4,3 @@
 mod log;
 
 pub use log::Log;
-
-#[cfg(test)]
-mod tests;

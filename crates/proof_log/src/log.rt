@@ -3,8 +3,8 @@ ghost use Rattle.std.specs.Prelude.{◌≡◌, ◌≤◌, ◌++◌, [], length, 
 ghost use Rattle.std.specs.Option.{option_map};
 ghost use Rattle.sat_lits.specs.Steps.{numbered, IsRupStep, HoldsUnit, IsRetirable};
 
+use fsmv_base::{Id, List, NoMemory};
 use sat_lits::{Clause, ClauseTable};
-use smv_ast::{Id, List, NoMemory};
 use std::alloc::Global;
 use std::marker::Model;
 

@@ -8,7 +8,7 @@ use Rattle.std.proofs.lemmas.List.{length-map, get_or-map, take_all}
 use Rattle.std.proofs.lemmas.List.Folds.{Any-from_list_any, list_any-from_Any}
 use Rattle.std.proofs.lemmas.List.Elements.{All-contains, Contains-get_or}
 use Rattle.std.proofs.lemmas.List.Sorted.{Contains-permutation, IsPermutation-sym}
-use Rattle.smv_ast.specs.declared.proof.Id.{Id}
+use Rattle.fsmv_base.specs.declared.citation.Id.{Id}
 use Rattle.sat_lits.specs.Literals.{negation, variable_of}
 use Rattle.sat_lits.specs.Steps.{negated, IsFalsified, IsRupStep}
 use Rattle.sat_arena.specs.declared.trail.Assigned.{Assigned}

@@ -6,7 +6,7 @@ use Rattle.std.proofs.lemmas.Bool.{cases_eq, cases_lt, both_ways}
 use Rattle.std.proofs.lemmas.List.{length-map, length-take, get_or-take, get_or-map, map-append, get_or_default}
 use Rattle.std.proofs.lemmas.List.Elements.{Contains-get_or, Contains-push, Contains-push_cases, Contains-append_left}
 use Rattle.std.proofs.lemmas.List.Quantifiers.{all_pairs_push}
-use Rattle.smv_ast.specs.declared.proof.Id.{Id}
+use Rattle.fsmv_base.specs.declared.citation.Id.{Id}
 use Rattle.sat_lits.specs.Literals.{negation, variable_of}
 use Rattle.sat_arena.specs.declared.trail.Assigned.{Assigned}
 use Rattle.sat_arena.specs.Stored.{Stored}

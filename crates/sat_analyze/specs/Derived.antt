@@ -1,6 +1,6 @@
 -- What is said of each clause that conflict analysis derives.
 use Rattle.std.specs.Prelude.{◌≡◌, ℕ, ◌<◌, ◌≤◌, List, Some, Option, All, Contains}
-use Rattle.smv_ast.specs.declared.proof.Id.{Id}
+use Rattle.fsmv_base.specs.declared.citation.Id.{Id}
 use Rattle.sat_lits.specs.Literals.{negation, variable_of}
 use Rattle.sat_lits.specs.Steps.{named, IsRupStep}
 use Rattle.sat_arena.specs.declared.trail.Assigned.{Assigned}

@@ -1,7 +1,7 @@
 -- A walk back over a trail, which leaves a clause that is derived.
 use Rattle.std.specs.Prelude.{◌≡◌, ◌≢◌, ℕ, ◌<◌, ◌≤◌, ◌++◌, ◌∷◌, [], ◌↔◌, Bool, true, false, List, Option, None, length, map, max, take, reverse, slice_index, slice_index_or, Contains, ◌⊎◌}
 use Rattle.std.specs.List.{AllPairs}
-use Rattle.smv_ast.specs.declared.proof.Id.{Id}
+use Rattle.fsmv_base.specs.declared.citation.Id.{Id}
 use Rattle.sat_lits.specs.Literals.{negation, variable_of}
 use Rattle.sat_lits.specs.Steps.{named, Refutes}
 use Rattle.sat_arena.specs.declared.trail.Assigned.{Assigned}

@@ -10,9 +10,9 @@ ghost use Rattle.sat_analyze.specs.Walked.{HaveOwnVariables};
 
 use crate::clause::clause_against;
 use crate::walk::{Keeping, Walk};
+use fsmv_base::{Id, List, NoMemory};
 use sat_arena::{Arena, Trail};
 use sat_lits::{Clause, Lit};
-use smv_ast::{Id, List, NoMemory};
 use std::alloc::Global;
 
 /// A clause that follows from those of an arena, and how.

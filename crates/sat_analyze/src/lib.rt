@@ -9,6 +9,3 @@ mod positions;
 mod walk;
 
 pub use learnt::{Learnt, final_clause, learn};
-
-#[cfg(test)]
-mod tests;

@@ -4,8 +4,8 @@ ghost use Rattle.sat_arena.specs.Trails.{IsOrderly};
 ghost use Rattle.sat_arena.specs.Justified.{current_level};
 ghost use Rattle.sat_analyze.specs.Walked.{HasPositions, IsStart};
 
+use fsmv_base::NoMemory;
 use sat_arena::{Assigned, Trail};
-use smv_ast::NoMemory;
 use std::alloc::Global;
 
 /// The position of each assigned variable's literal on the trail, by variables.

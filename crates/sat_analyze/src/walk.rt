@@ -8,9 +8,9 @@ ghost use Rattle.sat_analyze.specs.Walked.{IsStart, IsFresh, IsWalk, Meets, Keep
 
 use crate::marks::Marks;
 use crate::positions::{positions_of, start_of_current_level};
+use fsmv_base::{Id, NoMemory};
 use sat_arena::{Arena, Assigned, Trail};
 use sat_lits::Lit;
-use smv_ast::{Id, NoMemory};
 use std::alloc::Global;
 
 /// A walk back over a trail, from a falsified clause.

@@ -1,7 +1,7 @@
 -- Propagation, from one visit of a clause to the next.
 use Rattle.std.proofs.Common.{◌≡◌, ℕ, List, [], ◌∷◌, ◌++◌, Some, arith, get_or, length, ◌<◌, ◌≤◌, ◌+◌, sym, ◌∙◌, ap, subst, refl, zero, suc}
 use Rattle.std.specs.Prelude.{All, map}
-use Rattle.smv_ast.specs.declared.proof.Id.{Id}
+use Rattle.fsmv_base.specs.declared.citation.Id.{Id}
 use Rattle.std.proofs.lemmas.List.{length-map, length_push, length-append, get_or_append_left}
 use Rattle.std.proofs.lemmas.List.Elements.{All-push, All-get_or}
 use Rattle.sat_arena.specs.declared.trail.Assigned.{Assigned}

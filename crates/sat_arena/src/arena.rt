@@ -12,8 +12,8 @@ use crate::status::{WatchPair, only_or_any};
 use crate::stored::StoredClause;
 use crate::trail::Trail;
 use crate::visit::{move_to_list, visit_list};
+use fsmv_base::{Id, NoMemory};
 use sat_lits::{Clause, Lit};
-use smv_ast::{Id, NoMemory};
 use std::alloc::Global;
 use std::marker::Model;
 

@@ -12,6 +12,3 @@ pub use arena::Arena;
 pub use propagator::Propagator;
 pub use status::WatchPair;
 pub use trail::{Assigned, Trail};
-
-#[cfg(test)]
-mod tests;

@@ -14,8 +14,8 @@ ghost use Rattle.sat_arena.specs.PropagatorState.{AreCurrentFrom};
 use crate::arena::Arena;
 use crate::status::{Status, status_of, watches_for};
 use crate::trail::{Assigned, Trail};
+use fsmv_base::{Id, NoMemory};
 use sat_lits::{Clause, Lit};
-use smv_ast::{Id, NoMemory};
 use std::alloc::Global;
 use std::marker::Model;
 

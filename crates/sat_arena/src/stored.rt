@@ -5,8 +5,8 @@ ghost use Rattle.sat_lits.specs.Clauses.{HasRisingVariables};
 ghost use Rattle.sat_arena.specs.Trails.{marked};
 ghost use Rattle.sat_arena.specs.ArenaState.{is_satisfied};
 
+use fsmv_base::Id;
 use sat_lits::{Clause, Lit};
-use smv_ast::Id;
 use std::marker::Model;
 
 /// A clause, and the id under which proofs cite it.

@@ -5,8 +5,8 @@ ghost use Rattle.sat_arena.specs.Trails.{true_in, up_to, marked, IsOrderly, IsPo
 ghost use Rattle.sat_arena.specs.Justified.{current_level};
 ghost use Rattle.sat_arena.specs.Settled.{IsConsistent};
 
+use fsmv_base::NoMemory;
 use sat_lits::Lit;
-use smv_ast::NoMemory;
 use std::alloc::Global;
 use std::marker::Model;
 

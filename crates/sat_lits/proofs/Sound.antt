@@ -6,8 +6,8 @@ use Rattle.std.proofs.lemmas.List.Folds.{Any-from_list_any, list_any_at}
 use Rattle.std.proofs.lemmas.List.{get_or_default}
 use Rattle.std.proofs.Math.ListN.{get_or-append}
 use Rattle.std.proofs.lemmas.Option.{get_or_from_slice_get, slice_get_within}
-use Rattle.smv_ast.specs.declared.proof.Id.{Id}
-use Rattle.smv_ast.specs.declared.proof.Id.TheVariants.{Axiom, Derived}
+use Rattle.fsmv_base.specs.declared.citation.Id.{Id}
+use Rattle.fsmv_base.specs.declared.citation.Id.TheVariants.{Axiom, Derived}
 use Rattle.sat_lits.specs.Literals.{negation, literal_true}
 use Rattle.sat_lits.specs.Clauses.{clause_true, Satisfies, Follows}
 use Rattle.sat_lits.specs.Steps.{numbered, named, with, negated, Refutes, IsRupStep, LinesFollow}

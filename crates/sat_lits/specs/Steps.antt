@@ -4,8 +4,8 @@ use Rattle.std.specs.Prelude.{◌≡◌, ℕ, suc, zero, ◌<◌, ◌==◌, ◌|
 use Rattle.std.specs.List.{list_any}
 use Rattle.sat_lits.specs.Literals.{negation}
 use Rattle.sat_lits.specs.Clauses.{Follows}
-use Rattle.smv_ast.specs.declared.proof.Id.{Id}
-use Rattle.smv_ast.specs.declared.proof.Id.TheVariants.{Axiom, Derived}
+use Rattle.fsmv_base.specs.declared.citation.Id.{Id}
+use Rattle.fsmv_base.specs.declared.citation.Id.TheVariants.{Axiom, Derived}
 
 -- ---- Clauses by their names. A derived line is None where it was retired.
 

@@ -3,7 +3,7 @@ ghost use Rattle.std.specs.Prelude.{◌≡◌, ◌↔◌, IfOk, IfSome, IsSome};
 ghost use Rattle.sat_lits.specs.Clauses.{HasRisingVariables};
 
 use crate::literals::Lit;
-use smv_ast::NoMemory;
+use fsmv_base::NoMemory;
 use std::alloc::Global;
 use std::marker::Model;
 

@@ -9,6 +9,3 @@ mod table;
 pub use clauses::Clause;
 pub use literals::Lit;
 pub use table::ClauseTable;
-
-#[cfg(test)]
-mod tests;

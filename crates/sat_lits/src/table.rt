@@ -3,7 +3,7 @@ ghost use Rattle.std.specs.Prelude.{◌≡◌, Some, None, [], OnOk, OnErr};
 ghost use Rattle.sat_lits.specs.Table.{number_of, Puts};
 
 use crate::literals::Lit;
-use smv_ast::NoMemory;
+use fsmv_base::NoMemory;
 use std::alloc::Global;
 use std::collections::HashMap;
 use std::marker::Model;

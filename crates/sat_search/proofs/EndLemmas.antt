@@ -4,8 +4,8 @@ use Rattle.std.specs.Prelude.{All, Contains}
 use Rattle.std.proofs.lemmas.Bool.{both_ways}
 use Rattle.std.proofs.lemmas.List.{map-append}
 use Rattle.std.proofs.lemmas.List.Elements.{All-nil, All-cons, All-contains, All-push, Contains-push}
-use Rattle.smv_ast.specs.declared.proof.Id.{Id}
-use Rattle.smv_ast.specs.declared.proof.Id.TheVariants.{Derived}
+use Rattle.fsmv_base.specs.declared.citation.Id.{Id}
+use Rattle.fsmv_base.specs.declared.citation.Id.TheVariants.{Derived}
 use Rattle.sat_lits.specs.Literals.{negation, variable_of}
 use Rattle.sat_lits.specs.Steps.{IsFalsified, IsRupStep, HoldsUnit, IsLive, named}
 use Rattle.proof_log.specs.Logged.{Logged, live_lines}

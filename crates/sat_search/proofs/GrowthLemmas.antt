@@ -3,8 +3,8 @@ use Rattle.std.proofs.Common.{◌≡◌, ◌≤◌, ◌+◌, ℕ, List, [], ◌�
 use Rattle.std.specs.Prelude.{All, Contains, max}
 use Rattle.std.proofs.lemmas.List.{map-append, length_push}
 use Rattle.std.proofs.lemmas.List.Elements.{All-nil, All-cons, All-append, All-weaker, Contains-append_left, Contains-append_right, Contains-append_cases, Contains-get_or}
-use Rattle.smv_ast.specs.declared.proof.Id.{Id}
-use Rattle.smv_ast.specs.declared.proof.Id.TheVariants.{Axiom, Derived}
+use Rattle.fsmv_base.specs.declared.citation.Id.{Id}
+use Rattle.fsmv_base.specs.declared.citation.Id.TheVariants.{Axiom, Derived}
 use Rattle.sat_lits.specs.Literals.{variable_of}
 use Rattle.sat_lits.specs.Steps.{numbered, named}
 use Rattle.sat_lits.proofs.Numbered.{numbered-nil, numbered-append, numbered-last}

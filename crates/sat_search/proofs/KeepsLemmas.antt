@@ -3,8 +3,8 @@ use Rattle.std.proofs.Common.{◌≡◌, ◌<◌, ◌≤◌, ◌+◌, ℕ, List,
 use Rattle.std.specs.Prelude.{All, Contains, map, option_and_then}
 use Rattle.std.proofs.lemmas.List.{map-append, length-map}
 use Rattle.std.proofs.lemmas.List.Elements.{All-head, All-tail, All-contains, All-push, All-weaker, Contains-append_left, Contains-push, Contains-append_cases}
-use Rattle.smv_ast.specs.declared.proof.Id.{Id}
-use Rattle.smv_ast.specs.declared.proof.Id.TheVariants.{Axiom, Derived}
+use Rattle.fsmv_base.specs.declared.citation.Id.{Id}
+use Rattle.fsmv_base.specs.declared.citation.Id.TheVariants.{Axiom, Derived}
 use Rattle.sat_lits.specs.Literals.{variable_of}
 use Rattle.sat_lits.specs.Steps.{numbered, named}
 use Rattle.sat_lits.proofs.Numbered.{numbered-append, numbered-last, numbered-push, slice_get-push}

@@ -1,7 +1,7 @@
 -- Assumptions, and what becomes of a search under them.
 use Rattle.std.specs.Prelude.{◌≡◌, ℕ, ◌==◌, Bool, true, None, Some, List, take, All, Contains, ◌⊎◌}
 use Rattle.std.specs.List.{list_any}
-use Rattle.smv_ast.specs.declared.proof.Id.{Id}
+use Rattle.fsmv_base.specs.declared.citation.Id.{Id}
 use Rattle.sat_lits.specs.Steps.{IsFalsified, named}
 use Rattle.proof_log.specs.Logged.{Logged, live_lines}
 use Rattle.sat_arena.specs.declared.trail.Assigned.{Assigned}

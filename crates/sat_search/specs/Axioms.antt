@@ -1,6 +1,6 @@
 -- Axioms, as an arena stores them.
 use Rattle.std.specs.Prelude.{ℕ, suc, List, [], ◌∷◌}
-use Rattle.smv_ast.specs.declared.proof.Id.TheVariants.{Axiom}
+use Rattle.fsmv_base.specs.declared.citation.Id.TheVariants.{Axiom}
 use Rattle.sat_arena.specs.Stored.{Stored}
 
 -- the clauses under the ids of the axioms from this number on

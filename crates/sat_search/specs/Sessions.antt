@@ -1,7 +1,7 @@
 -- A session, as its callers see it.
 use Rattle.std.specs.Prelude.{◌≡◌, ℕ, ◌+◌, ◌≤◌, ◌<◌, Bool, true, List, Option, Some, None, Result, Ok, Err, length, slice_get, All, ◌⊎◌}
-use Rattle.smv_ast.specs.declared.proof.Id.{Id}
-use Rattle.smv_ast.specs.declared.proof.Id.TheVariants.{Derived}
+use Rattle.fsmv_base.specs.declared.citation.Id.{Id}
+use Rattle.fsmv_base.specs.declared.citation.Id.TheVariants.{Derived}
 use Rattle.sat_lits.specs.Literals.{literal_true}
 use Rattle.sat_lits.specs.Clauses.{Satisfies}
 use Rattle.proof_log.specs.declared.log.Line.{Line}

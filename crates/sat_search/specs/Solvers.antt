@@ -1,6 +1,6 @@
 -- What a search keeps between its steps.
 use Rattle.std.specs.Prelude.{◌≡◌, ℕ, List, Some, All, Contains}
-use Rattle.smv_ast.specs.declared.proof.Id.{Id}
+use Rattle.fsmv_base.specs.declared.citation.Id.{Id}
 use Rattle.sat_lits.specs.Literals.{variable_of}
 use Rattle.sat_lits.specs.Steps.{named}
 use Rattle.proof_log.specs.Logged.{Logged, live_lines}

@@ -11,9 +11,9 @@ ghost use Rattle.sat_search.specs.LoopEnds.{IsNewConflict};
 
 use crate::cores::find_falsified;
 use crate::solver::Solver;
+use fsmv_base::{Id, NoMemory};
 use sat_analyze::{Learnt, final_clause, learn};
 use sat_lits::Lit;
-use smv_ast::{Id, NoMemory};
 use std::alloc::Global;
 
 impl Solver {

@@ -1,5 +1,5 @@
 //! What a search answers.
-use smv_ast::Id;
+use fsmv_base::Id;
 
 /// What becomes of the clauses of a session under assumptions.
 #[derive(Clone, Copy, Debug, PartialEq, Eq)]

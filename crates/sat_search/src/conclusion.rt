@@ -15,9 +15,9 @@ ghost use Rattle.sat_search.specs.Endings.{IsEnd, Records, EndsBy, Refutes, IsRe
 
 use crate::answer::Answer;
 use crate::solver::Solver;
+use fsmv_base::{Id, NoMemory};
 use sat_analyze::Learnt;
 use sat_lits::{Clause, Lit};
-use smv_ast::{Id, NoMemory};
 use std::alloc::Global;
 
 impl Solver {

@@ -5,9 +5,9 @@ ghost use Rattle.sat_arena.specs.Trails.{marked, IsGrown};
 ghost use Rattle.sat_arena.specs.ArenaState.{clauses_of};
 ghost use Rattle.sat_search.specs.Assumed.{assumed};
 
+use fsmv_base::NoMemory;
 use sat_arena::Arena;
 use sat_lits::Lit;
-use smv_ast::NoMemory;
 use std::alloc::Global;
 
 /// A insert_all for each literal by its code, set for these alone.

@@ -7,8 +7,8 @@ ghost use Rattle.sat_search.specs.Orders.{IsOpen};
 ghost use Rattle.sat_search.specs.LoopEnds.{AreSettled, IsNewConflict, HasLoopEnd};
 
 use crate::solver::Solver;
+use fsmv_base::NoMemory;
 use sat_lits::Lit;
-use smv_ast::NoMemory;
 
 /// Where a decide_loop ends.
 pub enum LoopEnd {

@@ -12,9 +12,9 @@ ghost use Rattle.sat_search.specs.Founds.{HasValues, IsFound};
 use crate::answer::Answer;
 use crate::cores::literal_set_of;
 use crate::solver::Solver;
+use fsmv_base::NoMemory;
 use sat_arena::Trail;
 use sat_lits::Lit;
-use smv_ast::NoMemory;
 use std::alloc::Global;
 
 /// An answer, with the values of the variables by their numbers where it is a model.

@@ -9,10 +9,10 @@ ghost use Rattle.sat_search.specs.Axioms.{axioms_from};
 
 use crate::order::Order;
 use crate::solver::Solver;
+use fsmv_base::{Id, NoMemory};
 use proof_log::Log;
 use sat_arena::Propagator;
 use sat_lits::Clause;
-use smv_ast::{Id, NoMemory};
 use std::alloc::Global;
 
 impl Solver {

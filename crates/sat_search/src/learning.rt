@@ -9,7 +9,7 @@ ghost use Rattle.sat_search.specs.Endings.{AddsNewLine, EndsBy};
 
 use crate::answer::Answer;
 use crate::solver::Solver;
-use smv_ast::NoMemory;
+use fsmv_base::NoMemory;
 use std::alloc::Global;
 
 impl Solver {

@@ -20,6 +20,3 @@ mod solver;
 pub use answer::Answer;
 pub use clashes::clash;
 pub use session::Session;
-
-#[cfg(test)]
-mod tests;

@@ -5,9 +5,9 @@ ghost use Rattle.sat_arena.specs.Trails.{true_in, IsGrown};
 ghost use Rattle.sat_search.specs.Orders.{IsOpen, AllAssigned};
 
 use crate::heap::{put_last, sift_up, take_first};
+use fsmv_base::NoMemory;
 use sat_arena::{Assigned, Trail};
 use sat_lits::Lit;
-use smv_ast::NoMemory;
 use std::alloc::Global;
 use std::marker::Model;
 

@@ -10,8 +10,8 @@ use crate::answer::Answer;
 use crate::decide_loop::LoopEnd;
 use crate::restarts::Restarts;
 use crate::solver::Solver;
+use fsmv_base::NoMemory;
 use sat_lits::Lit;
-use smv_ast::NoMemory;
 use std::alloc::Global;
 
 impl Solver {

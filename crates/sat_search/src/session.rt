@@ -8,9 +8,9 @@ ghost use Rattle.sat_search.specs.Additions.{HasVariables};
 
 use crate::answer::Answer;
 use crate::solver::Solver;
+use fsmv_base::NoMemory;
 use proof_log::Log;
 use sat_lits::{Clause, Lit};
-use smv_ast::NoMemory;
 use std::alloc::Global;
 use std::marker::Model;
 

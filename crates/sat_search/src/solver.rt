@@ -9,10 +9,10 @@ ghost use Rattle.sat_search.specs.Solvers.{IsSolver};
 ghost use Rattle.sat_search.specs.LoopEnds.{AreSettled, IsNewConflict};
 
 use crate::order::Order;
+use fsmv_base::NoMemory;
 use proof_log::Log;
 use sat_arena::Propagator;
 use sat_lits::Lit;
-use smv_ast::NoMemory;
 
 /// The log of a search, the clauses among which it propagates with what is true, and the variables by their
 /// activity. `IsSolver` says how they fit each other.

@@ -2,24 +2,8 @@
 
 use crate::model::Product;
 use crate::syntax::Span;
-use crate::text::Text;
+use fsmv_base::{NoMemory, Text};
 use std::alloc::{AllocError, AllocFailed};
-
-/// Memory ran out.
-#[derive(Clone, Copy, Debug, PartialEq, Eq)]
-pub struct NoMemory;
-
-impl From<AllocError> for NoMemory {
-    fn from(_: AllocError) -> NoMemory {
-        NoMemory
-    }
-}
-
-impl<T: Drop> From<AllocFailed<T>> for NoMemory {
-    fn from(_: AllocFailed<T>) -> NoMemory {
-        NoMemory
-    }
-}
 
 /// The kind of a fault in the input, with its span and its values. A fault without a span is a
 /// fault of the whole input.

@@ -3,7 +3,7 @@
 use crate::model::FeatureModel;
 use crate::program::{Left, Program, Section};
 use crate::syntax::{Expr, Path, SmvType, Span};
-use crate::text::Text;
+use fsmv_base::Text;
 use sqlite_items::Items as List;
 
 /// A name that a feature requires of a module, and its type, if the feature states one. An empty

@@ -1,7 +1,7 @@
 //! Feature models and products.
 
 use crate::syntax::Expr;
-use crate::text::Text;
+use fsmv_base::Text;
 use sqlite_items::Items as List;
 
 /// The relation between the children of a group and their parent.

@@ -1,7 +1,7 @@
 //! Models: modules with their sections.
 
 use crate::syntax::{Expr, SmvType, Span};
-use crate::text::Text;
+use fsmv_base::Text;
 use sqlite_items::Items as List;
 
 /// The type of a variable, or the module and actuals of an instance.

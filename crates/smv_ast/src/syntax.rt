@@ -1,6 +1,6 @@
 //! Spans, names, types and expressions.
 
-use crate::text::Text;
+use fsmv_base::Text;
 use sqlite_items::{Boxed, Items as List};
 
 /// A position in the input: the number of a file, counted from 0 in the order of the command's

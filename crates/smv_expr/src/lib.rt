@@ -12,6 +12,3 @@ mod numeral;
 pub mod operand;
 
 pub use answer::read_expr;
-
-#[cfg(test)]
-mod tests;

@@ -19,6 +19,3 @@ pub use facts::Facts;
 pub use intervals::Interval;
 pub use pass::Pass;
 pub use sorts::Sort;
-
-#[cfg(test)]
-mod tests;

@@ -27,6 +27,3 @@ pub use check::check_run;
 pub use run::{Named, Run, RunAnswer, RunState};
 pub use spec::spec_holds;
 pub use value::{Value, first_value};
-
-#[cfg(test)]
-mod tests;

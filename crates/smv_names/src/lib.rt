@@ -16,6 +16,3 @@ pub mod unknown;
 mod unknown_modules;
 
 pub use check::check_names;
-
-#[cfg(test)]
-mod tests;

@@ -7,6 +7,3 @@ mod own;
 mod read_exprs;
 
 pub use count::count_nodes;
-
-#[cfg(test)]
-mod tests;

@@ -9,6 +9,3 @@ pub mod types;
 
 pub use program::{Reading, read_program};
 pub use smv_expr::read_expr;
-
-#[cfg(test)]
-mod tests;

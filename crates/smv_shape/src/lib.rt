@@ -11,6 +11,3 @@ mod ranges;
 mod rule;
 
 pub use check::check_shape;
-
-#[cfg(test)]
-mod tests;

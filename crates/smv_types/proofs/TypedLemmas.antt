@@ -17,7 +17,7 @@ use Rattle.smv_shape.specs.Shape.{shape_fault}
 use Rattle.smv_cycles.specs.HeldCycles.{OneEach}
 use Rattle.std.specs.Prelude.{IfOk, Result, Ok, Err}
 use Rattle.smv_ast.specs.declared.fault.Fault.{Fault}
-use Rattle.smv_ast.specs.declared.fault.NoMemory.{NoMemory}
+use Rattle.fsmv_base.specs.declared.no_memory.NoMemory.{NoMemory}
 use Rattle.smv_kinds.specs.Soundness.{AreShaped, IsSound}
 use Rattle.smv_nodes.specs.Count.{of_program, item_exprs, program_exprs, IsCount, HasNodes}
 use Rattle.smv_nodes.specs.Held.{of_table, table_exprs}

@@ -4,6 +4,3 @@
 mod checks;
 
 pub use checks::{Typed, check};
-
-#[cfg(test)]
-mod tests;

@@ -5,7 +5,7 @@ ghost use Rattle.std.specs.Fmt.{decimal, signed_decimal};
 ghost use Rattle.smv_ast.specs.PrintedExpr as spec;
 
 use crate::syntax::{Branch, Choice, Expr, Op};
-use crate::text::Text;
+use fsmv_base::Text;
 use itoa::Buffer;
 use std::alloc::AllocError;
 

@@ -7,7 +7,6 @@ ghost use Rattle.smv_ast.specs.PrintedProgram as spec;
 ghost use Rattle.smv_ast.specs.IgnoringSpans.{SameProgram};
 ghost use Rattle.smv_ast.specs.declared.program.Program.{Program};
 
-use crate::fault::NoMemory;
 use crate::printing::expr::{
     print_expr, print_joined, print_listed, print_range, print_signed, print_text,
 };
@@ -15,7 +14,7 @@ use crate::program::{
     Assignment, Declaration, Declared, Definition, Left, Module, Program, Section,
 };
 use crate::syntax::{Expr, SmvType};
-use crate::text::Text;
+use fsmv_base::{NoMemory, Text};
 use std::alloc::{AllocError, Global};
 
 fn print_numbers(out: &mut String, numbers: &[i64]) -> Result<(), AllocError>

@@ -1,7 +1,7 @@
 use Rattle.std.proofs.Common.{◌≡◌, ◌<◌, ◌+◌, ◌++◌, ◌∷◌, List, [], ℕ, Bool, true, false, not, cond, length, get_or, take, subst, sym, ap, ◌∙◌, arith, append-nil}
 use Rattle.std.specs.Prelude.{filter}
 use Rattle.std.proofs.lemmas.List.Elements.{filter_more}
-use Rattle.smv_ast.specs.declared.proof.Id.TheVariants.{Axiom}
+use Rattle.fsmv_base.specs.declared.citation.Id.TheVariants.{Axiom}
 use Rattle.sat_arena.specs.Stored.{Stored}
 use Rattle.sat_arena.specs.Trails.{marked}
 use Rattle.sat_arena.specs.ArenaState.{ArenaState, is_satisfied}

@@ -1,6 +1,6 @@
 use Rattle.std.proofs.Common.{◌≡◌, ◌+◌, ◌++◌, ◌∷◌, ◌∙◌, [], ℕ, List, length, get_or, take, ap, sym, subst, arith, append_assoc, append-nil, refl, ◌<◌}
 use Rattle.std.proofs.lemmas.List.{take_more, length-take-le, get_or_default, map_push}
-use Rattle.smv_ast.specs.declared.proof.Id.TheVariants.{Axiom}
+use Rattle.fsmv_base.specs.declared.citation.Id.TheVariants.{Axiom}
 use Rattle.sat_arena.specs.Stored.{Stored}
 use Rattle.sat_arena.specs.ArenaState.{clauses_of}
 use Rattle.sat_arena.specs.Deduced.{Deduces, nothing}

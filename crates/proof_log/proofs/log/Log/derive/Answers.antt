@@ -1,5 +1,5 @@
 use Rattle.std.proofs.Common.{◌≡◌, ◌++◌, ◌∷◌, [], ◌<◌, ◌+◌, ◌^◌, List, Some, None, ℕ, arith, refl, length, sym, ap, ◌∙◌, subst, inr}
-use Rattle.smv_ast.specs.declared.proof.Id.{Id}
+use Rattle.fsmv_base.specs.declared.citation.Id.{Id}
 use Rattle.sat_lits.specs.Steps.{IsLive}
 use Rattle.sat_lits.specs.Table.{number_of, Puts}
 use Rattle.proof_log.specs.declared.log.Line.{Line}

@@ -1,5 +1,5 @@
 use Rattle.std.proofs.Common.{◌≡◌, ◌<◌, ◌≤◌, ap, sym, subst, List, length, min, inr, ℕ, Bool, arith}
-use Rattle.smv_ast.specs.declared.proof.Id.{Id}
+use Rattle.fsmv_base.specs.declared.citation.Id.{Id}
 use Rattle.proof_log.specs.Logged.{Logged}
 use Rattle.sat_arena.specs.Settled.{HasTwo, IsSettled}
 use Rattle.sat_lits.specs.Steps.{IsFalsified}

@@ -2,7 +2,7 @@ use Rattle.std.proofs.Common.{◌≡◌, ◌<◌, ◌∙◌, ap, sym, subst, Lis
 use Rattle.std.specs.Prelude.{All}
 use Rattle.sat_lits.specs.Literals.{variable_of}
 use Rattle.sat_analyze.specs.Derived.{HasVariable}
-use Rattle.smv_ast.specs.declared.proof.Id.{Id}
+use Rattle.fsmv_base.specs.declared.citation.Id.{Id}
 use Rattle.sat_lits.specs.Steps.{IsFalsified, IsRupStep, HoldsUnit, IsLive}
 use Rattle.proof_log.specs.Logged.{Logged, live_lines}
 use Rattle.proof_log.specs.IsSound.{IsSound}
