@@ -15,13 +15,23 @@ use std::{env, io};
 /// The exit status where the machine does not give the words.
 const NO_WORDS: u8 = 9;
 
-/// The words after the program's name.
-fn words(rt: &HostRuntime) -> io::Result<Vec<String>> {
+/// The words after the program's name. An error of the kind `InvalidData` says that one of them is
+/// not UTF-8.
+fn given_words(rt: &HostRuntime) -> io::Result<Vec<String>> {
     let mut words = Vec::new(rt.alloc());
     for word in env::args(rt)?.skip(1) {
         words.push(word)?;
     }
     Ok(words)
+}
+
+/// The words of the command. Where one of them is not text there are none: both are no command, and
+/// are answered by the usage line.
+fn words(rt: &HostRuntime) -> io::Result<Vec<String>> {
+    match given_words(rt) {
+        Err(error) if error.kind() == io::ErrorKind::InvalidData => Ok(Vec::new(rt.alloc())),
+        given => given,
+    }
 }
 
 /// The exit status of the call.
