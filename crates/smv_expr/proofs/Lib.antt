@@ -21,6 +21,7 @@ pub mod Limited
 pub mod ExprLimited
 pub mod Local
 pub mod ExprLocal
+pub mod NameRules
 pub mod ExprRounds
 pub mod SpansInFile
 pub mod Answering
