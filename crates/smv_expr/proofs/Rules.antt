@@ -7,6 +7,7 @@ use Rattle.smv_expr.specs.Language.{Tokens, leaf, dep, both, many, either, mappe
 use Rattle.smv_expr.specs.Reading.{Cause, Alike, Outcome, Reader, and_then, read_if, read_leaf, read_dep, read_both, read_mapped, read_either, read_nothing}
 use Rattle.smv_expr.specs.Reading.Outcome.{Read, Stop}
 use Rattle.smv_expr.specs.Reading.Cause.{UnexpectedToken, Wide, Deep}
+use Rattle.smv_expr.specs.Answer.{opens}
 
 -- ---- what a reader owes
 
@@ -22,11 +23,11 @@ pub record Took {A : Type 0} (limit : ℕ) (L : ℕ → A → Tokens → Type 0)
   pub only : (m : ℕ) (y f r : Tokens) (b : A) → next_of y ≡ next_of remaining → f ++ r ≡ prefix ++ y → L m b f → begins (follow b) r ≡ false
       → (b ≡ a) × (f ≡ prefix) × (r ≡ y)
 
--- at which depths nothing can be read, for a cause
-abbrev pub Covers : ℕ → Cause → ℕ → Type 0
-Covers limit UnexpectedToken m = Unit {0}
-Covers limit Wide m = Unit {0}
-Covers limit Deep m = m ≤ limit
+-- at which depths nothing can be read, for a cause: where too many constructs are open, one that the next token opens counts
+abbrev pub Covers : ℕ → Cause → Tokens → ℕ → Type 0
+Covers limit UnexpectedToken remaining m = Unit {0}
+Covers limit Wide remaining m = Unit {0}
+Covers limit Deep remaining m = m ≤ limit + opens remaining
 
 -- where too many constructs are open, what goes on begins with the next token
 abbrev pub Begun : Cause → Tokens → Tokens → Type 0
@@ -49,7 +50,7 @@ pub record Halts {A : Type 0} (limit : ℕ) (L : ℕ → A → Tokens → Type 0
   pub more : Tokens
   pub viable : L depth value (prefix ++ more)
   pub begun : Begun cause more remaining
-  pub dead : (m : ℕ) (y f r : Tokens) (b : A) → Covers limit cause m → Alike cause y remaining → f ++ r ≡ prefix ++ y → L m b f → begins (follow b) r ≡ false → ⊥
+  pub dead : (m : ℕ) (y f r : Tokens) (b : A) → Covers limit cause remaining m → Alike cause y remaining → f ++ r ≡ prefix ++ y → L m b f → begins (follow b) r ≡ false → ⊥
 
 abbrev pub Good : {A : Type 0} → ℕ → (ℕ → A → Tokens → Type 0) → (A → List Kind) → Tokens → Outcome A → Type 0
 Good limit L follow ts (Read a remaining) = Took limit L follow ts a remaining
@@ -294,7 +295,7 @@ module _ {A : Type 0} (limit : ℕ) (L M : ℕ → A → Tokens → Type 0) wher
       only m y f r b n e (inl x) z = w.only m y f r b n e x (g_in.at b r z)
       only m y f r b n e (inr x) z = absurd (not_right ts w.prefix remaining y f r m b v w.split n e x z)
     left ts v (Stop cause remaining) w = record { prefix = w.prefix; split = w.split; depth = w.depth; value = w.value; more = w.more; viable = inl w.viable; begun = w.begun; dead = dead } where
-      dead : (m : ℕ) (y f r : Tokens) (b : A) → Covers limit cause m → Alike cause y remaining → f ++ r ≡ w.prefix ++ y → either (L m) (M m) b f → begins (k b) r ≡ false → ⊥
+      dead : (m : ℕ) (y f r : Tokens) (b : A) → Covers limit cause remaining m → Alike cause y remaining → f ++ r ≡ w.prefix ++ y → either (L m) (M m) b f → begins (k b) r ≡ false → ⊥
       dead m y f r b u n e (inl x) z = w.dead m y f r b u n e x (g_in.at b r z)
       dead m y f r b u n e (inr x) z = not_right ts w.prefix remaining y f r m b v w.split (alike_next cause y remaining n) e x z
 
@@ -304,7 +305,7 @@ module _ {A : Type 0} (limit : ℕ) (L M : ℕ → A → Tokens → Type 0) wher
       only m y f r b n e (inr x) z = w.only m y f r b n e x (h_in.at b r z)
       only m y f r b n e (inl x) z = absurd (not_left ts w.prefix remaining y f r m b v w.split n e x)
     right ts v (Stop cause remaining) w = record { prefix = w.prefix; split = w.split; depth = w.depth; value = w.value; more = w.more; viable = inr w.viable; begun = w.begun; dead = dead } where
-      dead : (m : ℕ) (y f r : Tokens) (b : A) → Covers limit cause m → Alike cause y remaining → f ++ r ≡ w.prefix ++ y → either (L m) (M m) b f → begins (k b) r ≡ false → ⊥
+      dead : (m : ℕ) (y f r : Tokens) (b : A) → Covers limit cause remaining m → Alike cause y remaining → f ++ r ≡ w.prefix ++ y → either (L m) (M m) b f → begins (k b) r ≡ false → ⊥
       dead m y f r b u n e (inr x) z = w.dead m y f r b u n e x (h_in.at b r z)
       dead m y f r b u n e (inl x) z = not_left ts w.prefix remaining y f r m b v w.split (alike_next cause y remaining n) e x
 

@@ -1,8 +1,9 @@
 -- What is answered of a whole text, by a reader of a language whose texts nest.
-use Rattle.std.specs.Prelude.{◌≡◌, ℕ, ◌≤◌, Bool, true, false, if◌then◌else◌, [], ◌∷◌, ◌++◌, length, Some, Result, Ok, Err}
+use Rattle.std.specs.Prelude.{◌≡◌, ℕ, ◌+◌, ◌≤◌, ◌⊎◌, Bool, true, false, if◌then◌else◌, List, [], ◌∷◌, ◌++◌, length, Some, Result, Ok, Err}
 use Rattle.smv_ast.specs.declared.syntax.Span.{Span}
 use Rattle.smv_ast.specs.declared.fault.Fault.{Fault}
 use Rattle.smv_ast.specs.declared.fault.Fault.TheVariants as fault
+use Rattle.smv_expr.specs.declared.kind.Kind.{Kind}
 use Rattle.smv_expr.specs.declared.kind.Kind.TheVariants as k
 use Rattle.smv_expr.specs.declared.error.ReadError.{ReadError}
 use Rattle.smv_expr.specs.declared.error.ReadError.TheVariants as error
@@ -72,10 +73,31 @@ pub record GoesOnWithin {A : Type 0} (G : Bool → ℕ → A → Tokens → Type
   pub reads : G false nesting_bound value (prefix ++ more)
   pub low : is_low value ≡ true
 
--- A text with numerals within the limit begins with the tokens before the remaining ones. No text within the limits begins
--- with the tokens up to the next one, and the list is none, whatever its numerals are.
+-- the tokens that open a construct of an expression, the word of `next(` among them; a `-` opens one only where it negates
+abbrev pub openers : List Kind
+openers = k.OpenParen ∷ k.OpenBrace ∷ k.Case ∷ k.Not ∷ k.Next ∷ k.Implies ∷ []
+
+-- how many constructs the next token opens
+unfoldable pub opens : Tokens → ℕ
+opens ts = if begins openers ts then 1 else 0
+
+-- the tokens with which an expression may end
+abbrev pub expr_ends : List Kind
+expr_ends = k.True ∷ k.False ∷ k.Numeral ∷ k.Name ∷ k.CloseParen ∷ k.CloseBrace ∷ k.Esac ∷ []
+
+-- More than a thousand constructs are open before the next token. No text begins with these tokens and the next one, with
+-- `..` after it or not as here, in which at each point at most a thousand are open, and the one that the token opens.
+abbrev pub HasTooManyOpen : {A : Type 0} → (Bool → ℕ → A → Tokens → Type 0) → Tokens → Tokens → Type 0
+HasTooManyOpen {A} G prefix remaining = (m : ℕ) (y : Tokens) (a : A) → m ≤ nesting_bound + opens remaining
+    → next_of y ≡ next_of remaining → followed_by k.DotDot y ≡ followed_by k.DotDot remaining → G false m a (prefix ++ y) → ⊥
+
+-- A text with numerals within the limit begins with the tokens up to the next one. Before that more than a thousand
+-- constructs are open, or it is one with which an expression may end. No text within the limits begins with the tokens up to
+-- it, and the list is none, whatever its numerals are.
 pub record StopsDeep {A : Type 0} (G : Bool → ℕ → A → Tokens → Type 0) (is_low : A → Bool) (ts remaining : Tokens) : Type 0 where
   pub before : IsViable (small G) ts remaining
+  pub live : GoesOn (small G) before.prefix remaining
+  pub cause : HasTooManyOpen G before.prefix remaining ⊎ (begins expr_ends remaining ≡ true)
   pub dead : GoesOnWithin G is_low before.prefix remaining → ⊥
   pub unfit : (m : ℕ) (a : A) → m ≤ nesting_bound → G true m a ts → is_low a ≡ true → ⊥
 

@@ -1,17 +1,15 @@
 -- Each reader of a part of a model, within limits and without.
-use Rattle.std.proofs.Common.{◌≡◌, Bool, true, ◌&&◌, List, [], ◌∷◌, ◌++◌, Some, None, refl, sym, ◌∙◌, ap}
+use Rattle.std.proofs.Common.{◌≡◌, Bool, true, ◌&&◌, [], ◌∷◌, Some, None, refl, sym}
 use Rattle.std.specs.List.{list_all}
 use Rattle.smv_ast.specs.declared.syntax.SmvType.TheVariants as type
 use Rattle.smv_ast.specs.declared.program.Declared.TheVariants as declared
 use Rattle.smv_ast.specs.declared.program.Left.TheVariants as left
 use Rattle.smv_expr.specs.declared.kind.Kind.{Kind}
 use Rattle.smv_expr.specs.declared.kind.Kind.TheVariants as k
-use Rattle.smv_expr.specs.Language.{of_kind, span_of, name_of}
-use Rattle.smv_expr.specs.Reading.{Reader, read_many, read_name, read_word}
 use Rattle.smv_expr.specs.Limits.Limit.{AnyHeight}
 use Rattle.smv_expr.specs.ExprReaders.{first_expr}
 use Rattle.smv_expr.specs.ExprAnswer.{is_low}
-use Rattle.smv_expr.proofs.Limited.{Obeys, always_fits, all_pass, leaf_obeys, nothing_obeys, mapped_obeys, either_obeys, many_obeys, gather_obeys, gather_from_obeys, retested, and_true, and_and}
+use Rattle.smv_expr.proofs.Limited.{Obeys, always_fits, nothing_obeys, mapped_obeys, either_obeys, gather_obeys, gather_from_obeys, and_true}
 use Rattle.smv_expr.proofs.ExprLimited.{word_then, both_then, sign_obeys, up_to_obeys}
 use Rattle.smv_expr.proofs.ExprAnswering.{limited_obeys}
 use Rattle.smv_expr.proofs.NameRules.{all_pushed, list_obeys, free_list, names_obeys, name_obeys, word_obeys}

@@ -119,8 +119,8 @@ fn program(alloc: Global, tokens: &mut Cursor<'_>) -> Result<Reading, ReadError>
 ///   is a word or a mark of SMV that is left out here.
 /// - `WideNumber`: a numeral over 2,147,483,647 that a model may have there.
 /// - `TooNested`: before the token more than 1,000 constructs of an expression are open, or with it an expression ends whose
-///   tree is higher than 1,000. No model within the limits begins with the tokens up to this one, and each beginning of the
-///   text that ends before it, and is a model, is within them.
+///   tree is higher than 1,000. A model with numerals within the limit begins with the tokens up to this one, but none within
+///   the limits of nesting does. Each beginning of the text that ends before it, and is a model, is within them.
 /// - `NoMemory`: memory ran out.
 ///
 /// Where the bytes are the canonical text of a printable model, the same model is answered, ignoring spans, or TooNested
