@@ -1,5 +1,5 @@
 -- From the rule of a reader without limits, and the reader within them beside it, to what a whole text is.
-use Rattle.std.proofs.Common.{◌≡◌, ℕ, ◌+◌, ◌≤◌, ◌⊎◌, Bool, true, false, List, [], ◌∷◌, ◌++◌, Err, Ok, refl, sym, ◌∙◌, ap, subst, append-nil, append_assoc, length, length-append, inl, inr, arith}
+use Rattle.std.proofs.Common.{◌≡◌, ℕ, suc, ◌+◌, ◌≤◌, ◌⊎◌, Bool, true, false, List, [], ◌∷◌, ◌++◌, Err, Ok, refl, sym, ◌∙◌, ap, subst, append-nil, append_assoc, length, length-append, inl, inr, arith}
 use Rattle.std.specs.Prelude.{Result, Some}
 use Rattle.std.proofs.lemmas.List.{append_cancel_right}
 use Rattle.smv_ast.specs.declared.fault.Fault.{Fault}
@@ -15,6 +15,7 @@ use Rattle.smv_expr.specs.Reading.Outcome.{Read, Stop}
 use Rattle.smv_expr.specs.Reading.Cause.{UnexpectedToken, Wide, Deep}
 use Rattle.smv_expr.specs.Answer.{unlimited, small, opens, expr_ends, HasTooManyOpen, IsText, StopsAt, IsViable, GoesOn, GoesOnWithin, AreWithin, Verdict, Answers, IsAnswered, IsResultOf, result_of, syntax_fault, IsFaultOf}
 use Rattle.smv_expr.specs.Limits.{nesting_bound}
+use Rattle.smv_expr.specs.ExprReaders.{first_expr}
 use Rattle.smv_expr.proofs.Rules.{Good, Halts, Covers, Rule}
 use Rattle.smv_expr.proofs.Words.{always}
 use Rattle.smv_expr.proofs.Limited.{Sim, AtWide, Beyond, LeavesSuffix, Fails, Obeys}
@@ -46,6 +47,8 @@ record NestsTooDeep {A : Type 0} (L : ℕ → A → Tokens → Type 0) (ts remai
   token : Token
   next : next_of remaining ≡ Some token
   begun : next_of before.more ≡ Some token
+  first : begins first_expr remaining ≡ true
+  near : before.viable.0 ≤ suc nesting_bound + opens remaining
   dead : (m : ℕ) (y : Tokens) (a : A) → m ≤ nesting_bound + opens remaining → Alike Deep y remaining → L m a (before.prefix ++ y) → ⊥
 
 module _ {A : Type 0} (L : ℕ → A → Tokens → Type 0) (follow : List Kind) where
@@ -78,6 +81,8 @@ module _ {A : Type 0} (L : ℕ → A → Tokens → Type 0) (follow : List Kind)
     token = w.begun.0;
     next = w.begun.2;
     begun = w.begun.1;
+    first = w.begun.3;
+    near = w.near;
     dead = λ m y b u n h. w.dead m y (w.prefix ++ y) [] b u n (append-nil (w.prefix ++ y)) h refl;
   }
 
@@ -155,7 +160,11 @@ module _ {A : Type 0} (G : Bool → ℕ → A → Tokens → Type 0) (follow : L
   at_deepest ts remaining o near (inl e) v = let d : NestsTooDeep (G false) ts remaining = subst (λ (x : Outcome A). Plain (G false) follow ts x) e v in record {
     before = d.before;
     live = goes_begun (G false) follow ts remaining d;
-    cause = inl (λ m y a u n dots h. d.dead m y a u (n, dots) h);
+    cause = inl (record {
+      begun = d.first;
+      live = record { depth = d.before.viable.0; below = d.near; more = d.before.more; next = d.begun ∙ sym d.next; value = d.before.value; viable = d.before.viable.1 };
+      dead = λ m y a u n dots h. d.dead m y a u (n, dots) h;
+    });
   }
   at_deepest ts remaining o near (inr h) v = let g = goes_beyond (G false) follow ts remaining near.0 o near.1 h.0 (viable_of (G false) follow ts o v) in record {
     before = record { prefix = near.0; split = near.1; more = g.more; value = g.value; viable = g.viable };

@@ -587,11 +587,11 @@ pub record ExprRules (any : Bool) (limit : ℕ) : Type 0 where
   pub signed : Rule limit (signed_expr any) (always follow_unary) (read_signed_expr limit (AnyHeight any))
 
 pub expr_rules : (any : Bool) (limit : ℕ) → ExprRules any limit
-unfolding read_expr
+unfolding read_expr same_kind
 expr_rules any zero = record {
-  whole = at_depth_limit any first_expr (always follow_expr) (expr_under any) (expr_lang any) (starts_expr any) (no_opener (Lone any g.whole) (lone_whole any)) (small_expr any) (expr_begins any);
-  negated = at_depth_limit any first_expr (always follow_not) (not_under any) (not_lang any) (starts_not_expr any) (no_opener (Lone any g.not_level) (lone_not any)) (small_not_expr any) (not_begins any);
-  signed = at_depth_limit any first_unary (always follow_unary) (signed_under any) (signed_lang any) (starts_signed_expr any) (no_opener (Lone any g.negated) (lone_negated any)) (small_signed_expr any) (signed_begins any);
+  whole = at_depth_limit any first_expr (always follow_expr) refl (expr_under any) (expr_lang any) (starts_expr any) (no_opener (Lone any g.whole) (lone_whole any)) (small_expr any) (expr_begins any);
+  negated = at_depth_limit any first_expr (always follow_not) refl (not_under any) (not_lang any) (starts_not_expr any) (no_opener (Lone any g.not_level) (lone_not any)) (small_not_expr any) (not_begins any);
+  signed = at_depth_limit any first_unary (always follow_unary) refl (signed_under any) (signed_lang any) (starts_signed_expr any) (no_opener (Lone any g.negated) (lone_negated any)) (small_signed_expr any) (signed_begins any);
 }
 expr_rules any (suc limit) = let s = expr_rules any limit in let b = signed_bars any limit in record {
   whole = deeper (expr_under any) (expr_lang any) (whole_rule any limit (read_expr limit) (read_not limit) (read_signed_expr limit) s.whole s.negated s.signed b);

@@ -1,5 +1,5 @@
 -- What is answered of a whole text, by a reader of a language whose texts nest.
-use Rattle.std.specs.Prelude.{◌≡◌, ℕ, ◌+◌, ◌≤◌, ◌⊎◌, Bool, true, false, if◌then◌else◌, List, [], ◌∷◌, ◌++◌, length, Some, Result, Ok, Err}
+use Rattle.std.specs.Prelude.{◌≡◌, ℕ, suc, ◌+◌, ◌≤◌, ◌⊎◌, Bool, true, false, if◌then◌else◌, List, [], ◌∷◌, ◌++◌, length, Some, Result, Ok, Err}
 use Rattle.smv_ast.specs.declared.syntax.Span.{Span}
 use Rattle.smv_ast.specs.declared.fault.Fault.{Fault}
 use Rattle.smv_ast.specs.declared.fault.Fault.TheVariants as fault
@@ -13,6 +13,7 @@ use Rattle.smv_expr.specs.Reading.{Outcome, Reader, remaining_of}
 use Rattle.smv_expr.specs.Reading.Outcome.{Read, Stop}
 use Rattle.smv_expr.specs.Reading.Cause.{UnexpectedToken, Wide, Deep}
 use Rattle.smv_expr.specs.Limits.{nesting_bound}
+use Rattle.smv_expr.specs.ExprReaders.{first_expr}
 
 -- ---- what a list of tokens is
 
@@ -85,13 +86,26 @@ opens ts = if begins openers ts then 1 else 0
 abbrev pub expr_ends : List Kind
 expr_ends = k.True ∷ k.False ∷ k.Numeral ∷ k.Name ∷ k.CloseParen ∷ k.CloseBrace ∷ k.Esac ∷ []
 
--- More than a thousand constructs are open before the next token. No text begins with these tokens and the next one, with
--- `..` after it or not as here, in which at each point at most a thousand are open, and the one that the token opens.
-abbrev pub HasTooManyOpen : {A : Type 0} → (Bool → ℕ → A → Tokens → Type 0) → Tokens → Tokens → Type 0
-HasTooManyOpen {A} G prefix remaining = (m : ℕ) (y : Tokens) (a : A) → m ≤ nesting_bound + opens remaining
-    → next_of y ≡ next_of remaining → followed_by k.DotDot y ≡ followed_by k.DotDot remaining → G false m a (prefix ++ y) → ⊥
+-- Some text begins with these tokens and the next of the remaining ones, with fewer constructs open at each point than the
+-- number.
+pub record GoesOnBelow {A : Type 0} (G : Bool → ℕ → A → Tokens → Type 0) (number : ℕ) (prefix remaining : Tokens) : Type 0 where
+  pub depth : ℕ
+  pub below : depth ≤ number
+  pub more : Tokens
+  pub next : next_of more ≡ next_of remaining
+  pub value : A
+  pub viable : G false depth value (prefix ++ more)
 
--- A text with numerals within the limit begins with the tokens up to the next one. Before that more than a thousand
+-- The next token begins an expression, and a thousand and one constructs are open before it. Beside the one that the token
+-- opens itself, a text that begins with the tokens up to it, with `..` after it or not as here, has more than a thousand open
+-- at some point; and some text has no more than a thousand and one.
+pub record HasTooManyOpen {A : Type 0} (G : Bool → ℕ → A → Tokens → Type 0) (prefix remaining : Tokens) : Type 0 where
+  pub begun : begins first_expr remaining ≡ true
+  pub live : GoesOnBelow G (suc nesting_bound + opens remaining) prefix remaining
+  pub dead : (m : ℕ) (y : Tokens) (a : A) → m ≤ nesting_bound + opens remaining → next_of y ≡ next_of remaining
+      → followed_by k.DotDot y ≡ followed_by k.DotDot remaining → G false m a (prefix ++ y) → ⊥
+
+-- A text with numerals within the limit begins with the tokens up to the next one. Before that a thousand and one
 -- constructs are open, or it is one with which an expression may end. No text within the limits begins with the tokens up to
 -- it, and the list is none, whatever its numerals are.
 pub record StopsDeep {A : Type 0} (G : Bool → ℕ → A → Tokens → Type 0) (is_low : A → Bool) (ts remaining : Tokens) : Type 0 where
