@@ -34,4 +34,5 @@ pub mod Forms
 pub mod Pieces
 pub mod RoundTrip
 pub mod RoundTripAnswers
+pub mod ReadTrees
 pub mod Examples

@@ -125,12 +125,14 @@ fn program(alloc: Global, tokens: &mut Cursor<'_>) -> Result<Reading, ReadError>
 ///
 /// Where the bytes are the canonical text of a printable model, the same model is answered, ignoring spans, or TooNested
 /// or NoMemory.
+/// Each model that is answered is printable: its names are identifiers, which have no dot, and its numbers are within the limit.
 pub fn read_program(alloc: Global, file: u32, bytes: &[u8]) -> Result<Reading, Fault>
     requires { length bytes.now < 2 ^ 32 }
     ensures answer { ProgramAnswer file bytes.now result }
     ensures complete { (r : Reading) → Reads file bytes.now r → IsAnswered r result }
     ensures round_trip { (p : Program) → PrintableProgram p → bytes.now ≡ printed_program p
         → IsProgramRoundTrip file bytes.now p result }
+    ensures printable { IfOk result (λ r. PrintableProgram r.program) }
 {
     let mut tokens = Cursor::new(file, bytes);
     let found = program(alloc, &mut tokens);
