@@ -1,5 +1,5 @@
 -- From the rule of a reader without limits, and the reader within them beside it, to what a whole text is.
-use Rattle.std.proofs.Common.{◌≡◌, ℕ, ◌≤◌, Bool, true, false, List, [], ◌∷◌, ◌++◌, Err, Ok, refl, sym, ◌∙◌, ap, subst, append-nil, append_assoc, length, length-append, inl, inr, arith}
+use Rattle.std.proofs.Common.{◌≡◌, ℕ, suc, ◌+◌, ◌≤◌, ◌⊎◌, Bool, true, false, List, [], ◌∷◌, ◌++◌, Err, Ok, refl, sym, ◌∙◌, ap, subst, append-nil, append_assoc, length, length-append, inl, inr, arith}
 use Rattle.std.specs.Prelude.{Result, Some}
 use Rattle.std.proofs.lemmas.List.{append_cancel_right}
 use Rattle.smv_ast.specs.declared.fault.Fault.{Fault}
@@ -13,8 +13,9 @@ use Rattle.smv_expr.specs.Language.{Tokens, next_of, begins, followed_by}
 use Rattle.smv_expr.specs.Reading.{Cause, Outcome, Reader, remaining_of, Alike, Gives}
 use Rattle.smv_expr.specs.Reading.Outcome.{Read, Stop}
 use Rattle.smv_expr.specs.Reading.Cause.{UnexpectedToken, Wide, Deep}
-use Rattle.smv_expr.specs.Answer.{unlimited, small, IsText, StopsAt, IsViable, GoesOn, GoesOnWithin, AreWithin, Verdict, Answers, IsAnswered, IsResultOf, result_of, syntax_fault, IsFaultOf}
+use Rattle.smv_expr.specs.Answer.{unlimited, small, opens, expr_ends, HasTooManyOpen, IsText, StopsAt, IsViable, GoesOn, GoesOnWithin, AreWithin, Verdict, Answers, IsAnswered, IsResultOf, result_of, syntax_fault, IsFaultOf}
 use Rattle.smv_expr.specs.Limits.{nesting_bound}
+use Rattle.smv_expr.specs.ExprReaders.{first_expr}
 use Rattle.smv_expr.proofs.Rules.{Good, Halts, Covers, Rule}
 use Rattle.smv_expr.proofs.Words.{always}
 use Rattle.smv_expr.proofs.Limited.{Sim, AtWide, Beyond, LeavesSuffix, Fails, Obeys}
@@ -46,7 +47,9 @@ record NestsTooDeep {A : Type 0} (L : ℕ → A → Tokens → Type 0) (ts remai
   token : Token
   next : next_of remaining ≡ Some token
   begun : next_of before.more ≡ Some token
-  dead : (m : ℕ) (y : Tokens) (a : A) → m ≤ nesting_bound → Alike Deep y remaining → L m a (before.prefix ++ y) → ⊥
+  first : begins first_expr remaining ≡ true
+  near : before.viable.0 ≤ suc nesting_bound + opens remaining
+  dead : (m : ℕ) (y : Tokens) (a : A) → m ≤ nesting_bound + opens remaining → Alike Deep y remaining → L m a (before.prefix ++ y) → ⊥
 
 module _ {A : Type 0} (L : ℕ → A → Tokens → Type 0) (follow : List Kind) where
   abbrev Plain : Tokens → Outcome A → Type 0
@@ -56,7 +59,7 @@ module _ {A : Type 0} (L : ℕ → A → Tokens → Type 0) (follow : List Kind)
   Plain ts (Stop Wide remaining) = Ends L ts remaining
   Plain ts (Stop Deep remaining) = NestsTooDeep L ts remaining
 
-  halts : (cause : Cause) (ts remaining : Tokens) → ((m : ℕ) → Covers nesting_bound cause m) → ((y : Tokens) → next_of y ≡ next_of remaining → Alike cause y remaining) → Halts nesting_bound L (always follow) cause ts remaining → Ends L ts remaining
+  halts : (cause : Cause) (ts remaining : Tokens) → ((m : ℕ) → Covers nesting_bound cause remaining m) → ((y : Tokens) → next_of y ≡ next_of remaining → Alike cause y remaining) → Halts nesting_bound L (always follow) cause ts remaining → Ends L ts remaining
   halts cause ts remaining covers alike w = record {
     before = record { prefix = w.prefix; split = w.split; more = w.more; value = w.value; viable = (w.depth, w.viable) };
     dead = λ g. w.dead g.viable.0 g.more (w.prefix ++ g.more) [] g.value (covers g.viable.0) (alike g.more g.next) (append-nil (w.prefix ++ g.more)) g.viable.1 refl;
@@ -78,19 +81,15 @@ module _ {A : Type 0} (L : ℕ → A → Tokens → Type 0) (follow : List Kind)
     token = w.begun.0;
     next = w.begun.2;
     begun = w.begun.1;
+    first = w.begun.3;
+    near = w.near;
     dead = λ m y b u n h. w.dead m y (w.prefix ++ y) [] b u n (append-nil (w.prefix ++ y)) h refl;
   }
 
-  -- ---- what is viable up to some token is viable up to each token before it
+  -- ---- what takes the next token
 
   same_prefix : (ts remaining mid rest : Tokens) (near on : Tokens) → ts ≡ near ++ remaining → remaining ≡ on ++ rest → ts ≡ mid ++ rest → near ++ on ≡ mid
   same_prefix ts remaining mid rest near on e f g = append_cancel_right (near ++ on) mid rest (append_assoc near on rest ∙ ap (λ x. near ++ x) (sym f) ∙ sym e ∙ g)
-
-  viable_so_far : (ts remaining : Tokens) (o : Outcome A) → (mid : Tokens) × (ts ≡ mid ++ remaining) → LeavesSuffix remaining o → IsViable (deep L) ts (remaining_of o) → IsViable (deep L) ts remaining
-  viable_so_far ts remaining o near on v =
-      let same = same_prefix ts remaining v.prefix (remaining_of o) near.0 on.0 near.1 on.1 v.split in
-      let more : near.0 ++ (on.0 ++ v.more) ≡ v.prefix ++ v.more = sym (append_assoc near.0 on.0 v.more) ∙ ap (λ x. x ++ v.more) same in
-      record { prefix = near.0; split = near.1; more = on.0 ++ v.more; value = v.value; viable = (v.viable.0, subst (λ (x : Tokens). L v.viable.0 v.value x) (sym more) v.viable.1) }
 
   viable_of : (ts : Tokens) (o : Outcome A) → Plain ts o → IsViable (deep L) ts (remaining_of o)
   viable_of ts (Read a []) v = record { prefix = ts; split = sym (append-nil ts); more = []; value = a; viable = (nesting_bound, subst (λ (x : Tokens). L nesting_bound a x) (sym (append-nil ts)) v.reads) }
@@ -133,7 +132,7 @@ module _ {A : Type 0} (G : Bool → ℕ → A → Tokens → Type 0) (follow : L
   unfit_of ts (Read b (t ∷ remaining)) v f m a u h l = no_text ts (t ∷ remaining) a m v h
   unfit_of ts (Stop UnexpectedToken remaining) v f m a u h l = no_text ts remaining a m v h
   unfit_of ts (Stop Wide remaining) v f m a u h l = no_text ts remaining a m v h
-  unfit_of ts (Stop Deep remaining) v f m a u h l = v.dead m remaining a u (refl, refl) (subst (λ (x : Tokens). G true m a x) v.before.split h)
+  unfit_of ts (Stop Deep remaining) v f m a u h l = v.dead m remaining a (omega (arith, u)) (refl, refl) (subst (λ (x : Tokens). G true m a x) v.before.split h)
 
   unfit : (ts remaining : Tokens) (o : Outcome A) → Sim true is_low (Stop Deep remaining) o → Plain (G true) follow ts o → (m : ℕ) (a : A) → m ≤ nesting_bound → G true m a ts → is_low a ≡ true → ⊥
   unfit ts remaining o (inl e) v = unfit_of ts (Stop Deep remaining) (subst (λ (x : Outcome A). Plain (G true) follow ts x) e v) tt
@@ -151,9 +150,27 @@ module _ {A : Type 0} (G : Bool → ℕ → A → Tokens → Type 0) (follow : L
       let d : NestsTooDeep (G true) ts remaining = subst (λ (x : Outcome A). Plain (G true) follow ts x) e v in
       same_viable (G true) follow d.before.prefix prefix remaining (one_prefix ts d.before.prefix prefix remaining d.before.split s) (goes_begun (G true) follow ts remaining d)
 
-  before_deep : (ts remaining : Tokens) (o : Outcome A) → LeavesSuffix {A = A} ts (Stop Deep remaining) → Sim false is_low (Stop Deep remaining) o → Plain (G false) follow ts o → IsViable (small G) ts remaining
-  before_deep ts remaining o near (inl e) v = let d : NestsTooDeep (G false) ts remaining = subst (λ (x : Outcome A). Plain (G false) follow ts x) e v in d.before
-  before_deep ts remaining o near (inr h) v = viable_so_far (G false) follow ts remaining o near h.0 (viable_of (G false) follow ts o v)
+  -- the tokens up to the next one, and why no more of them are read
+  record Deepest (ts remaining : Tokens) : Type 0 where
+    before : IsViable (small G) ts remaining
+    live : GoesOn (small G) before.prefix remaining
+    cause : HasTooManyOpen G before.prefix remaining ⊎ (begins expr_ends remaining ≡ true)
+
+  at_deepest : (ts remaining : Tokens) (o : Outcome A) → LeavesSuffix {A = A} ts (Stop Deep remaining) → Sim false is_low (Stop Deep remaining) o → Plain (G false) follow ts o → Deepest ts remaining
+  at_deepest ts remaining o near (inl e) v = let d : NestsTooDeep (G false) ts remaining = subst (λ (x : Outcome A). Plain (G false) follow ts x) e v in record {
+    before = d.before;
+    live = goes_begun (G false) follow ts remaining d;
+    cause = inl (record {
+      begun = d.first;
+      live = record { depth = d.before.viable.0; below = d.near; more = d.before.more; next = d.begun ∙ sym d.next; value = d.before.value; viable = d.before.viable.1 };
+      dead = λ m y a u n dots h. d.dead m y a u (n, dots) h;
+    });
+  }
+  at_deepest ts remaining o near (inr h) v = let g = goes_beyond (G false) follow ts remaining near.0 o near.1 h.0 (viable_of (G false) follow ts o v) in record {
+    before = record { prefix = near.0; split = near.1; more = g.more; value = g.value; viable = g.viable };
+    live = g;
+    cause = inr h.2;
+  }
 
   -- from the readers without a limit on heights: s has the limit on numerals, and l has not
   by_reading : (ts : Tokens) (o s l : Outcome A) → LeavesSuffix ts o → Sim false is_low o s → Sim true is_low o l → Plain (G false) follow ts s → Plain (G true) follow ts l
@@ -167,7 +184,7 @@ module _ {A : Type 0} (G : Bool → ℕ → A → Tokens → Type 0) (follow : L
   by_reading ts (Stop Wide remaining) s l near x y v u d =
       let p : Ends (G false) ts remaining = subst (λ (z : Outcome A). Plain (G false) follow ts z) x.1 v in
       record { wide = x.0; before = p.before; live = live ts remaining p.before.prefix l p.before.split y.1 u; dead = p.dead }
-  by_reading ts (Stop Deep remaining) s l near x y v u d = let b = before_deep ts remaining s near x v in record { before = b; dead = d remaining b refl; unfit = unfit ts remaining l y u }
+  by_reading ts (Stop Deep remaining) s l near x y v u d = let b = at_deepest ts remaining s near x v in record { before = b.before; live = b.live; cause = b.cause; dead = d remaining b.before refl; unfit = unfit ts remaining l y u }
 
   -- ---- a text is read
 

@@ -1,5 +1,5 @@
 -- Expressions nested deeper: what is read within a number is read within each greater one, for the same tree.
-use Rattle.std.proofs.Common.{ℕ, zero, suc, Bool, true, false, [], ◌∷◌, None, fold, refl, sym, inl, inr, append-nil}
+use Rattle.std.proofs.Common.{ℕ, zero, suc, Bool, true, false, [], ◌∷◌, None, fold, refl, sym, inl, inr, append-nil, arith}
 use Rattle.smv_ast.specs.declared.syntax.Expr.{Expr}
 use Rattle.smv_ast.specs.declared.syntax.Expr.TheVariants as e
 use Rattle.smv_expr.specs.declared.kind.Kind.TheVariants as k
@@ -141,13 +141,13 @@ pub signed_expr_true : (any : Bool) → signed_expr any 1 e.True a_true
 signed_expr_true any = inr (inr (primary_true any (expr any 0) (not_expr any 0) (signed_expr any 0)))
 
 pub expr_lang : (any : Bool) → IsLang (expr any)
-expr_lang any = record { up = λ m n a ts h. (deeper_inside (expr any) (λ i. (steps any i).whole) m n).at a ts h; depth = 1; value = e.True; text = a_true; reads = expr_true any }
+expr_lang any = record { up = λ m n a ts h. (deeper_inside (expr any) (λ i. (steps any i).whole) m n).at a ts h; depth = 1; shallow = omega arith; value = e.True; text = a_true; reads = expr_true any }
 
 pub not_lang : (any : Bool) → IsLang (not_expr any)
-not_lang any = record { up = λ m n a ts h. (deeper_inside (not_expr any) (λ i. (steps any i).negated) m n).at a ts h; depth = 1; value = e.True; text = a_true; reads = not_expr_true any }
+not_lang any = record { up = λ m n a ts h. (deeper_inside (not_expr any) (λ i. (steps any i).negated) m n).at a ts h; depth = 1; shallow = omega arith; value = e.True; text = a_true; reads = not_expr_true any }
 
 pub signed_lang : (any : Bool) → IsLang (signed_expr any)
-signed_lang any = record { up = λ m n a ts h. (deeper_inside (signed_expr any) (λ i. (steps any i).signed) m n).at a ts h; depth = 1; value = e.True; text = a_true; reads = signed_expr_true any }
+signed_lang any = record { up = λ m n a ts h. (deeper_inside (signed_expr any) (λ i. (steps any i).signed) m n).at a ts h; depth = 1; shallow = omega arith; value = e.True; text = a_true; reads = signed_expr_true any }
 
 -- ---- each is its level, with one construct more that may be open
 

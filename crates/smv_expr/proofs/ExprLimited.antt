@@ -1,5 +1,5 @@
 -- Each reader of a part of an expression, within limits and without.
-use Rattle.std.proofs.Common.{◌≡◌, ℕ, zero, suc, ◌≤◌, ◌-◌, Bool, true, false, ◌&&◌, List, [], ◌∷◌, max, Option, Some, None, refl, sym, ◌∙◌, ap, arith, cond}
+use Rattle.std.proofs.Common.{◌≡◌, ℕ, zero, suc, ◌≤◌, ◌-◌, Bool, true, false, ◌&&◌, List, [], ◌∷◌, max, Option, Some, None, refl, sym, ◌∙◌, ap, subst, arith, cond}
 use Rattle.std.specs.Prelude.{nat_lt, map}
 use Rattle.std.proofs.lemmas.Bool.Decides.{nat_tests}
 use Rattle.smv_ast.specs.declared.syntax.Span.{Span}
@@ -14,7 +14,7 @@ use Rattle.smv_expr.specs.declared.kind.Kind.{Kind}
 use Rattle.smv_expr.specs.declared.kind.Kind.TheVariants as k
 use Rattle.smv_expr.specs.Lexicon.{Token, same_kind}
 use Rattle.smv_expr.specs.Language.{Tokens, begins, has, of_kind, of_kinds, span_of, name_of, number_of, number_kinds, kinds_of, find_kind, followed_by}
-use Rattle.smv_expr.specs.Reading.{Reader, read_if, read_leaf, read_word, read_name, read_digits, read_one_of, read_both}
+use Rattle.smv_expr.specs.Reading.{Outcome, Reader, read_if, read_leaf, read_word, read_name, read_digits, read_one_of, read_both}
 use Rattle.smv_expr.specs.Reading.Outcome.{Read, Stop}
 use Rattle.smv_expr.specs.Reading.Cause.{UnexpectedToken, Wide}
 use Rattle.smv_expr.specs.ExprGrammar.{number_expr, branch_of, cases_of}
@@ -26,8 +26,9 @@ use Rattle.smv_expr.specs.Limits.{Limit, capped, fits, beside, nesting_bound}
 use Rattle.smv_expr.specs.Limits.Limit.{AnyHeight, Below}
 use Rattle.smv_expr.proofs.HeightLemmas as h
 use Rattle.smv_expr.proofs.NextToken.{leaf_stop}
-use Rattle.smv_expr.proofs.Sets.{within, has_within, begins_within}
-use Rattle.smv_expr.proofs.Limited.{Obeys, always_fits, all_pass, leaf_obeys, wide_obeys, nothing_obeys, allowed_obeys, dep_obeys, mapped_obeys, either_obeys, test_obeys, many_obeys, row_obeys, retested, and_true, and_and, deep_obeys}
+use Rattle.smv_expr.specs.Answer.{expr_ends}
+use Rattle.smv_expr.proofs.Sets.{within, has_within, begins_within, begins_apart}
+use Rattle.smv_expr.proofs.Limited.{Obeys, Beyond, always_fits, all_pass, leaf_obeys, wide_obeys, nothing_obeys, allowed_obeys, dep_obeys, mapped_obeys, either_obeys, test_obeys, many_obeys, row_obeys, retested, and_true, and_and, deep_obeys}
 
 -- ---- tests of heights
 
@@ -73,20 +74,60 @@ no_limited (t ∷ ts) a remaining n e = by_wide (has (k.WideNumeral ∷ []) t.ki
   by_wide true h e = cc
   by_wide false h e = let s = kinds_stop number_kinds number_of t ts (no_number t n h) in cc
 
+-- a token of these kinds is read
+kinds_take : {A : Type 0} (kinds : List Kind) (f : Token → A) (ts : Tokens) → begins kinds ts ≡ true → Beyond ts (read_leaf (of_kinds kinds f) ts)
+kinds_take kinds f [] h = cc
+kinds_take {A = A} kinds f (t ∷ ts) h = subst (λ (o : Outcome A). Beyond (t ∷ ts) o) (sym (ap (λ v. read_if (cond v (Some (f t)) None) (t ∷ ts) ts) h)) ([], refl)
+
+limited_takes : (any : Bool) (ts : Tokens) → begins (k.Numeral ∷ []) ts ≡ true → Beyond ts (read_limited any ts)
+unfolding read_limited same_kind
+limited_takes true ts h = kinds_take number_kinds number_of ts (begins_within (k.Numeral ∷ []) number_kinds refl ts h)
+limited_takes false ts h = subst (λ (v : Bool). Beyond ts (cond v (Stop Wide ts) (read_digits ts))) (sym (begins_apart (k.Numeral ∷ []) (k.WideNumeral ∷ []) refl ts h))
+    (kinds_take number_kinds number_of ts (begins_within (k.Numeral ∷ []) number_kinds refl ts h))
+
+-- with each of these tokens an expression may end
+ends_numeral : within (k.Numeral ∷ []) expr_ends ≡ true
+unfolding same_kind
+ends_numeral = refl
+
+ends_name : within (k.Name ∷ []) expr_ends ≡ true
+unfolding same_kind
+ends_name = refl
+
+ends_true : within (k.True ∷ []) expr_ends ≡ true
+unfolding same_kind
+ends_true = refl
+
+ends_false : within (k.False ∷ []) expr_ends ≡ true
+unfolding same_kind
+ends_false = refl
+
+ends_paren : within (k.CloseParen ∷ []) expr_ends ≡ true
+unfolding same_kind
+ends_paren = refl
+
+ends_brace : within (k.CloseBrace ∷ []) expr_ends ≡ true
+unfolding same_kind
+ends_brace = refl
+
+ends_case : within (k.Esac ∷ []) expr_ends ≡ true
+unfolding same_kind
+ends_case = refl
+
 pub last_obeys : (any ok : Bool) → Obeys any (λ n. ok) (read_last false ok) (read_limited any)
 unfolding read_last
-last_obeys any ok = allowed_obeys ok (k.Numeral ∷ []) (read_limited false) (read_limited any) (limited_obeys any) no_limited
+last_obeys any ok = allowed_obeys ok (k.Numeral ∷ []) (read_limited false) (read_limited any) (limited_obeys any) no_limited (limited_takes any) ends_numeral
 
 no_word : {A : Type 0} (kind : Kind) (f : Token → A) (ts : Tokens) (a : A) (remaining : Tokens) → begins (kind ∷ []) ts ≡ false → read_leaf (of_kind kind f) ts ≡ Read a remaining → ⊥
 no_word kind f ts a remaining n e = let s = leaf_stop kind f ts n in cc
 
-close_obeys : {any : Bool} (ok : Bool) (kind : Kind) → Obeys any (λ at. ok) (read_close ok kind) (read_word kind)
+close_obeys : {any : Bool} (ok : Bool) (kind : Kind) → within (kind ∷ []) expr_ends ≡ true → Obeys any (λ at. ok) (read_close ok kind) (read_word kind)
 unfolding read_close
-close_obeys ok kind = allowed_obeys ok (kind ∷ []) (read_word kind) (read_word kind) (leaf_obeys (of_kind kind span_of)) (no_word kind span_of)
+close_obeys ok kind ends = allowed_obeys ok (kind ∷ []) (read_word kind) (read_word kind) (leaf_obeys (of_kind kind span_of)) (no_word kind span_of) (kinds_take (kind ∷ []) span_of) ends
 
 first_name_obeys : {any : Bool} (ok : Bool) → Obeys any (λ n. ok) (read_first_name ok) read_name
 unfolding read_first_name
-first_name_obeys ok = allowed_obeys ok (k.Name ∷ []) read_name read_name (leaf_obeys (of_kind k.Name name_of)) (no_word k.Name name_of)
+first_name_obeys ok = allowed_obeys ok (k.Name ∷ []) read_name read_name (leaf_obeys (of_kind k.Name name_of)) (no_word k.Name name_of) (kinds_take (k.Name ∷ []) name_of) ends_name
 
 -- a word, and then the other
 pub word_then : {B : Type 0} {any : Bool} {test : B → Bool} {p' p : Reader B} (kind : Kind) → Obeys any test p' p → Obeys any (λ v. test v.1) (read_both (read_word kind) p') (read_both (read_word kind) p)
@@ -186,7 +227,7 @@ module _ (any : Bool) (w n u : Limit → Reader Expr) (ow : (b : ℕ) → b ≤ 
   parens_obeys : (b : ℕ) → b ≤ nesting_bound → Obeys any (low (Below b)) (r.read_parens w n u (Below b)) (r.read_parens w n u (AnyHeight any))
   unfolding r.read_parens read_close
   parens_obeys b small = mapped_obeys _ _ (low (Below b)) (λ v. implied_first _ _ (below_more (capped (height v.1.0)) b small))
-      (word_then k.OpenParen (dep_obeys any (low (Below nesting_bound)) (λ a at. low (Below b) a) _ _ (λ a. close_obeys (low (Below b) a) k.CloseParen) _ _ inner))
+      (word_then k.OpenParen (dep_obeys any (low (Below nesting_bound)) (λ a at. low (Below b) a) _ _ (λ a. close_obeys (low (Below b) a) k.CloseParen ends_paren) _ _ inner))
 
   next_obeys : (b : ℕ) → b ≤ nesting_bound → Obeys any (low (Below b)) (r.read_next_value w n u (Below b)) (r.read_next_value w n u (AnyHeight any))
   unfolding r.read_next_value
@@ -206,7 +247,7 @@ module _ (any : Bool) (w n u : Limit → Reader Expr) (ow : (b : ℕ) → b ≤ 
   braces_obeys : (b : ℕ) → b ≤ nesting_bound → Obeys any (λ c. fits (Below b) (choice_height c)) (r.read_braces w n u (Below b)) (r.read_braces w n u (AnyHeight any))
   unfolding r.read_braces read_close
   braces_obeys b small = mapped_obeys _ _ (λ c. fits (Below b) (choice_height c)) (λ v. implied_first _ _ (parts_low v.1.0.0 v.1.0.1 b small))
-      (word_then k.OpenBrace (dep_obeys any (λ v. low (Below nesting_bound) v.0 && all_pass (low (Below nesting_bound)) v.1) (λ v at. fits (Below b) (choice_height (choice.Each (v.0 ∷ v.1)))) _ _ (λ v. close_obeys _ k.CloseBrace) _ _ (both_then inner (more_listed_obeys b))))
+      (word_then k.OpenBrace (dep_obeys any (λ v. low (Below nesting_bound) v.0 && all_pass (low (Below nesting_bound)) v.1) (λ v at. fits (Below b) (choice_height (choice.Each (v.0 ∷ v.1)))) _ _ (λ v. close_obeys _ k.CloseBrace ends_brace) _ _ (both_then inner (more_listed_obeys b))))
 
   interval_obeys : (b : ℕ) → Obeys any (λ c. fits (Below b) (choice_height c)) (r.read_interval w n u (Below b)) (r.read_interval w n u (AnyHeight any))
   unfolding r.read_interval
@@ -232,13 +273,13 @@ module _ (any : Bool) (w n u : Limit → Reader Expr) (ow : (b : ℕ) → b ≤ 
   unfolding r.read_cases read_close
   cases_obey b small = mapped_obeys cases_of _ (low (Below b)) (λ v. implied_first _ _ (cases_low v.1.0 v.1.1.0 b small) ∙ sym (and_and (low_branch v.1.0) (all_pass low_branch v.1.1.0) _))
       (word_then k.Case (dep_obeys any low_branch (λ first v. all_pass low_branch v.0 && low (Below b) (e.Cases (first ∷ v.0))) _ _
-      (λ first. dep_obeys any (all_pass low_branch) (λ more at. low (Below b) (e.Cases (first ∷ more))) _ _ (λ more. close_obeys _ k.Esac) _ _ (branches_obey b)) _ _ (branch_obeys b)))
+      (λ first. dep_obeys any (all_pass low_branch) (λ more at. low (Below b) (e.Cases (first ∷ more))) _ _ (λ more. close_obeys _ k.Esac ends_case) _ _ (branches_obey b)) _ _ (branch_obeys b)))
 
   primary_obeys : (b : ℕ) → b ≤ nesting_bound → Obeys any (low (Below b)) (r.read_primary w n u (Below b)) (r.read_primary w n u (AnyHeight any))
   unfolding r.read_primary read_close
   primary_obeys b small =
-      either_obeys (k.True ∷ []) (mapped_obeys _ _ (low (Below b)) (λ at. ap (fits (Below b)) (h.height_constant true)) (close_obeys (fits (Below b) 1) k.True)) (
-      either_obeys (k.False ∷ []) (mapped_obeys _ _ (low (Below b)) (λ at. ap (fits (Below b)) (h.height_constant false)) (close_obeys (fits (Below b) 1) k.False)) (
+      either_obeys (k.True ∷ []) (mapped_obeys _ _ (low (Below b)) (λ at. ap (fits (Below b)) (h.height_constant true)) (close_obeys (fits (Below b) 1) k.True ends_true)) (
+      either_obeys (k.False ∷ []) (mapped_obeys _ _ (low (Below b)) (λ at. ap (fits (Below b)) (h.height_constant false)) (close_obeys (fits (Below b) 1) k.False ends_false)) (
       either_obeys (k.Name ∷ []) (path_obeys b) (
       either_obeys (k.OpenParen ∷ []) (parens_obeys b small) (
       either_obeys (k.OpenBrace ∷ []) (mapped_obeys e.Pick _ (low (Below b)) (λ c. ap (fits (Below b)) (h.height_pick c) ∙ inside_low (choice_height c) b small) (braces_obeys (b - 1) (less b small))) (

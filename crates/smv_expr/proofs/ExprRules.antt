@@ -14,6 +14,7 @@ use Rattle.smv_expr.specs.Reading.Cause.{Wide}
 use Rattle.smv_expr.specs.ExprGrammar.{number_expr, branch_of, cases_of}
 use Rattle.smv_expr.specs.ExprGrammar as g
 use Rattle.smv_expr.specs.ExprGrammar.{expr, not_expr, signed_expr, is_closed, ends_closed, joined_operand, never_ends, within_operand, closed_operand, open_operand, joined, Operand, path_of, term_operators, sum_operators, comparisons, and_operators, or_operators, iff_operators}
+use Rattle.smv_expr.specs.Answer.{openers}
 use Rattle.smv_expr.specs.Limits.{Limit}
 use Rattle.smv_expr.specs.Limits.Limit.{AnyHeight}
 use Rattle.smv_expr.specs.ExprReaders.{first_primary, first_signed, first_unary, first_expr, read_limited, read_last, read_close, read_too_deep, read_sign, read_up_to, read_single, read_number, read_negative_interval, read_dotted, read_dotted_names, read_first_name, read_path, read_parens, read_next_value, read_listed, read_more_listed, read_braces, read_interval, read_choice, read_branch, read_branches, read_cases, read_primary, read_negated, read_minus, read_signed, read_unary, read_negatable, read_negation, read_closed, read_right_of, read_operand, read_term_item, read_more_term, read_term, read_sum_item, read_more_sum, read_sum, read_in_choice, read_more_within, read_within, read_comparison_item, read_more_comparison, read_comparison, read_not_level, read_and_item, read_more_and, read_and_level, read_or_item, read_more_or, read_or_level, read_iff_item, read_more_iff, read_iff_level, read_conclusion, read_whole, read_expr, read_not, read_signed_expr}
@@ -22,7 +23,7 @@ use Rattle.smv_expr.proofs.Rows.{follow_by, row_rule}
 use Rattle.smv_expr.proofs.RowRounds.{row_rounds}
 use Rattle.smv_expr.proofs.NumberRules.{follow_number, number_is, starts_up_to, negated_rule, at_depth_limit, small_first, starts_small, IsSmall, IsNegatable}
 use Rattle.smv_expr.proofs.NumberRules.IsNegatable.{one, other}
-use Rattle.smv_expr.proofs.Sets.{begins_not_within, begins_within}
+use Rattle.smv_expr.proofs.Sets.{begins_not_within, begins_within, begins_apart}
 use Rattle.smv_expr.proofs.Nesting.{deeper}
 use Rattle.smv_expr.proofs.Rounds.{Consumes, consumes}
 use Rattle.smv_expr.proofs.FirstTexts.{expr_begins, not_begins, signed_begins}
@@ -300,6 +301,66 @@ small_signed_expr true m a f h = tt
 small_signed_expr false zero a f h = absurd h
 small_signed_expr false (suc m) a f h = begins_within small_unary small_first refl f (small_negated.at m a f h)
 
+-- ---- what each part begins with where it opens no construct
+
+abbrev lone_first : List Kind
+lone_first = k.Minus ∷ k.True ∷ k.False ∷ k.Name ∷ number_kinds
+
+starts_nowhere : {A : Type 0} {L : ℕ → A → Tokens → Type 0} (set : List Kind) → ((m : ℕ) (a : A) (f : Tokens) → L m a f → ⊥) → Starts set L
+starts_nowhere set e = record { at = λ m a f h. absurd (e m a f h) }
+
+abbrev Lone : {A : Type 0} → Bool → (Bool → (Expr → Tokens → Type 0) → (Expr → Tokens → Type 0) → (Expr → Tokens → Type 0) → A → Tokens → Type 0) → ℕ → A → Tokens → Type 0
+Lone any F m = F any (expr any 0) (not_expr any 0) (signed_expr any 0)
+
+module _ (any : Bool) where
+  lone_parens : Starts lone_first (Lone any g.parens)
+  lone_parens = starts_nowhere lone_first (λ m a f h. h.1.second.first)
+
+  lone_braces : Starts lone_first (Lone any g.braces)
+  lone_braces = starts_nowhere lone_first (λ m a f h. h.1.second.first.first)
+
+  lone_next : Starts lone_first (Lone any g.next_value)
+  lone_next = starts_nowhere lone_first (λ m a f h. h.1.second.1.second.first)
+
+  lone_cases : Starts lone_first (Lone any g.cases)
+  lone_cases = starts_nowhere lone_first (λ m a f h. h.1.second.first.1.first)
+
+  lone_primary : Starts lone_first (Lone any g.primary)
+  unfolding same_kind
+  lone_primary = starts_either (starts_more lone_first refl starts_true) (starts_either (starts_more lone_first refl starts_false) (starts_either (starts_more lone_first refl starts_path)
+      (starts_either lone_parens (starts_either (starts_mapped e.Pick lone_braces) (starts_either lone_next lone_cases)))))
+
+  lone_minus : Starts (k.Minus ∷ []) (Lone any g.minus)
+  lone_minus = record { at = λ m a f h. (starts_minus any).at 0 a f h }
+
+  lone_signed : Starts lone_first (Lone any g.minus_or_primary)
+  unfolding same_kind
+  lone_signed = starts_either (starts_more lone_first refl lone_minus) lone_primary
+
+  lone_negated : Starts lone_first (Lone any g.negated)
+  unfolding same_kind
+  lone_negated = starts_either (starts_more lone_first refl (starts_single any)) lone_signed
+
+  lone_operand : Starts lone_first (λ m. mapped open_operand (Lone any g.unary m))
+  unfolding same_kind
+  lone_operand = starts_mapped open_operand (starts_either (starts_more lone_first refl (starts_number any)) lone_signed)
+
+  lone_within : Starts lone_first (Lone any g.within)
+  lone_within = starts_mapped _ (starts_dep _ (starts_mapped _ (starts_dep _ (starts_mapped _ (starts_dep _ lone_operand)))))
+
+  lone_negation : Starts lone_first (Lone any g.negation)
+  lone_negation = starts_nowhere lone_first (λ m a f h. h.1.second)
+
+  lone_not : Starts lone_first (Lone any g.not_level)
+  lone_not = starts_either lone_negation (starts_mapped _ (starts_mapped _ (starts_dep _ lone_within)))
+
+  lone_whole : Starts lone_first (Lone any g.whole)
+  lone_whole = starts_mapped _ (starts_dep _ (starts_mapped _ (starts_dep _ (starts_mapped _ (starts_dep _ (starts_mapped _ (starts_dep _ lone_not)))))))
+
+no_opener : {A : Type 0} (L : ℕ → A → Tokens → Type 0) → Starts lone_first L → (a : A) (f : Tokens) → L 0 a f → begins openers f ≡ false
+unfolding same_kind
+no_opener L s a f h = begins_apart lone_first openers refl f (s.at 0 a f h)
+
 -- ---- numbers and paths
 
 module _ {limit : ℕ} (any : Bool) where
@@ -526,11 +587,11 @@ pub record ExprRules (any : Bool) (limit : ℕ) : Type 0 where
   pub signed : Rule limit (signed_expr any) (always follow_unary) (read_signed_expr limit (AnyHeight any))
 
 pub expr_rules : (any : Bool) (limit : ℕ) → ExprRules any limit
-unfolding read_expr
+unfolding read_expr same_kind
 expr_rules any zero = record {
-  whole = at_depth_limit any first_expr (always follow_expr) (expr_under any) (expr_lang any) (starts_expr any) (small_expr any) (expr_begins any);
-  negated = at_depth_limit any first_expr (always follow_not) (not_under any) (not_lang any) (starts_not_expr any) (small_not_expr any) (not_begins any);
-  signed = at_depth_limit any first_unary (always follow_unary) (signed_under any) (signed_lang any) (starts_signed_expr any) (small_signed_expr any) (signed_begins any);
+  whole = at_depth_limit any first_expr (always follow_expr) refl (expr_under any) (expr_lang any) (starts_expr any) (no_opener (Lone any g.whole) (lone_whole any)) (small_expr any) (expr_begins any);
+  negated = at_depth_limit any first_expr (always follow_not) refl (not_under any) (not_lang any) (starts_not_expr any) (no_opener (Lone any g.not_level) (lone_not any)) (small_not_expr any) (not_begins any);
+  signed = at_depth_limit any first_unary (always follow_unary) refl (signed_under any) (signed_lang any) (starts_signed_expr any) (no_opener (Lone any g.negated) (lone_negated any)) (small_signed_expr any) (signed_begins any);
 }
 expr_rules any (suc limit) = let s = expr_rules any limit in let b = signed_bars any limit in record {
   whole = deeper (expr_under any) (expr_lang any) (whole_rule any limit (read_expr limit) (read_not limit) (read_signed_expr limit) s.whole s.negated s.signed b);

@@ -21,6 +21,7 @@ pub mod Limited
 pub mod ExprLimited
 pub mod Local
 pub mod ExprLocal
+pub mod NameRules
 pub mod ExprRounds
 pub mod SpansInFile
 pub mod Answering
@@ -33,4 +34,5 @@ pub mod Forms
 pub mod Pieces
 pub mod RoundTrip
 pub mod RoundTripAnswers
+pub mod ReadTrees
 pub mod Examples

@@ -9,6 +9,8 @@ use Rattle.smv_expr.specs.Reading.{Cause, Outcome, Reader, remaining_of, and_the
 use Rattle.smv_expr.specs.Reading.Outcome.{Read, Stop}
 use Rattle.smv_expr.specs.Reading.Cause.{UnexpectedToken, Wide, Deep}
 use Rattle.smv_expr.specs.ExprGrammar.{never_ends}
+use Rattle.smv_expr.specs.Answer.{expr_ends}
+use Rattle.smv_expr.proofs.Sets.{within, begins_within}
 use Rattle.smv_expr.proofs.Rounds.{Consumes, then_same}
 use Rattle.smv_expr.proofs.RowRounds.{never_ended}
 
@@ -34,13 +36,13 @@ abbrev pub AtWide : {A : Type 0} → Bool → Tokens → Outcome A → Type 0
 AtWide true ts o = Beyond ts o ⊎ (o ≡ Stop Deep ts)
 AtWide false ts o = o ≡ Stop Wide ts
 
--- The same, where the test passes. For a limit the one stops where the other goes on: at a numeral over it, or before
--- what does not pass; or both stop at too many open constructs.
+-- The same, where the test passes. For a limit the one stops where the other goes on: at a numeral over it, or at a token
+-- with which an expression may end, where what is read does not pass; or both stop at too many open constructs.
 abbrev pub Sim : {A : Type 0} → Bool → (A → Bool) → Outcome A → Outcome A → Type 0
 Sim any test (Read a remaining) o = (o ≡ Read a remaining) × (test a ≡ true)
 Sim any test (Stop UnexpectedToken remaining) o = o ≡ Stop UnexpectedToken remaining
 Sim any test (Stop Wide remaining) o = (begins (k.WideNumeral ∷ []) remaining ≡ true) × AtWide any remaining o
-Sim any test (Stop Deep remaining) o = (o ≡ Stop Deep remaining) ⊎ (LeavesSuffix remaining o × Fails test o)
+Sim any test (Stop Deep remaining) o = (o ≡ Stop Deep remaining) ⊎ (Beyond remaining o × Fails test o × (begins expr_ends remaining ≡ true))
 
 -- The first reader is the second within limits, which what is read keeps where it passes the test. The second has no
 -- limit on heights, and on numerals where they may be of any size.
@@ -109,7 +111,7 @@ module _ {A B : Type 0} (any : Bool) (test : A → Bool) (test' : A → B → Bo
   second a t (Stop UnexpectedToken remaining) o e = (ap (paired a) e)
   second a t (Stop Deep remaining) o (inl e) = inl (ap (paired a) e)
   second a t (Stop Wide remaining) o h = (h.0, wide_too any remaining o (paired a o) (λ ts. suffix_paired ts a o) (λ cause e. ap (paired a) e) h.1)
-  second a t (Stop Deep remaining) o (inr h) = inr (suffix_paired remaining a o h.0, fails_second a o h.1)
+  second a t (Stop Deep remaining) o (inr h) = inr (beyond_too remaining o (paired a o) (λ ts. suffix_paired ts a o) h.0, fails_second a o h.1, h.2)
 
   suffix_first : (q : A → Reader B) → ((a : A) (ts : Tokens) → LeavesSuffix ts (q a ts)) → (ts : Tokens) (o : Outcome A) → LeavesSuffix ts o → LeavesSuffix ts (and_then o (λ a remaining. paired a (q a remaining)))
   suffix_first q on ts (Read a remaining) b = suffix_more ts remaining b.0 (paired a (q a remaining)) b.1 (suffix_paired remaining a (q a remaining) (on a remaining))
@@ -131,7 +133,7 @@ module _ {A B : Type 0} (any : Bool) (test : A → Bool) (test' : A → B → Bo
     first (Stop UnexpectedToken remaining) o e = (ap continues e)
     first (Stop Deep remaining) o (inl e) = inl (ap continues e)
     first (Stop Wide remaining) o e = (e.0, wide_too any remaining o (continues o) (λ ts. suffix_both ts o) (λ cause h. ap continues h) e.1)
-    first (Stop Deep remaining) o (inr e) = inr (suffix_both remaining o e.0, fails_on o e.1)
+    first (Stop Deep remaining) o (inr e) = inr (beyond_too remaining o (continues o) (λ ts. suffix_both ts o) e.0, fails_on o e.1, e.2)
 
     pub dep_obeys : (p' p : Reader A) → Obeys any test p' p → Obeys any both_pass (read_dep p' q') (read_dep p q)
     dep_obeys p' p o = record { at = λ ts. first (p' ts) (p ts) (o.at ts); on = λ ts. suffix_both ts (p ts) (o.on ts); near = λ ts. suffix_first q' (λ a. (h a).near) ts (p' ts) (o.near ts) }
@@ -155,7 +157,7 @@ module _ {A B : Type 0} (any : Bool) (fun : A → B) (test : A → Bool) (test' 
   sim_mapped (Stop UnexpectedToken remaining) o e = (ap mapped e)
   sim_mapped (Stop Deep remaining) o (inl e) = inl (ap mapped e)
   sim_mapped (Stop Wide remaining) o h = (h.0, wide_too any remaining o (mapped o) (λ ts. suffix_mapped ts o) (λ cause e. ap mapped e) h.1)
-  sim_mapped (Stop Deep remaining) o (inr h) = inr (suffix_mapped remaining o h.0, fails_mapped o h.1)
+  sim_mapped (Stop Deep remaining) o (inr h) = inr (beyond_too remaining o (mapped o) (λ ts. suffix_mapped ts o) h.0, fails_mapped o h.1, h.2)
 
 pub mapped_obeys : {A B : Type 0} {any : Bool} (fun : A → B) (test : A → Bool) (test' : B → Bool) → ((a : A) → test' (fun a) ≡ test a) → {p' p : Reader A} → Obeys any test p' p → Obeys any test' (read_mapped fun p') (read_mapped fun p)
 mapped_obeys {any = any} fun test test' same {p' = p'} {p = p} o = record {
@@ -176,7 +178,7 @@ module _ {A : Type 0} (any : Bool) (test test' : A → Bool) (same : (a : A) →
   sim_same (Stop UnexpectedToken remaining) o h = h
   sim_same (Stop Deep remaining) o (inl h) = inl h
   sim_same (Stop Wide remaining) o h = h
-  sim_same (Stop Deep remaining) o (inr h) = inr (h.0, fails_same o h.1)
+  sim_same (Stop Deep remaining) o (inr h) = inr (h.0, fails_same o h.1, h.2)
 
 pub retested : {A : Type 0} {any : Bool} (test test' : A → Bool) → ((a : A) → test' a ≡ test a) → {p' p : Reader A} → Obeys any test p' p → Obeys any test' p' p
 retested {any = any} test test' same {p' = p'} {p = p} o = record { at = λ ts. sim_same any test test' same (p' ts) (p ts) (o.at ts); on = o.on; near = o.near }
@@ -281,28 +283,30 @@ module _ {A : Type 0} (any : Bool) where
   sim_wider v (Stop UnexpectedToken remaining) o e h = h
   sim_wider v (Stop Deep remaining) o e (inl h) = inl h
   sim_wider v (Stop Wide remaining) o e h = h
-  sim_wider v (Stop Deep remaining) o e (inr h) = inr (h.0, high o h.1) where
+  sim_wider v (Stop Deep remaining) o e (inr h) = inr (h.0, high o h.1, h.2) where
     high : (x : Outcome A) → Fails always_fits x → Fails (λ a. v) x
     high (Read a r) g = cc
     high (Stop c r) g = tt
 
-  -- `set` has each kind of token that is read, and no other that is
-  allowed : (ok : Bool) (set : List Kind) (p' p : Reader A) → Obeys any always_fits p' p → ((ts : Tokens) (a : A) (remaining : Tokens) → begins set ts ≡ false → p' ts ≡ Read a remaining → ⊥) → Obeys any (λ a. ok) (read_allowed ok Deep set p') p
-  allowed true set p' p o others = record { at = λ ts. sim_wider true (p' ts) (p ts) refl (o.at ts); on = o.on; near = o.near }
-  allowed false set p' p o others = record { at = λ ts. by_first ts (begins set ts) refl; on = o.on; near = λ ts. suffix_cond ts (begins set ts) (Stop Deep ts) (p' ts) ([], refl) (o.near ts) } where
+  -- `set` has each kind of token that is read, and no other that is; with each of them an expression may end
+  allowed : (ok : Bool) (set : List Kind) (p' p : Reader A) → Obeys any always_fits p' p → ((ts : Tokens) (a : A) (remaining : Tokens) → begins set ts ≡ false → p' ts ≡ Read a remaining → ⊥)
+      → ((ts : Tokens) → begins set ts ≡ true → Beyond ts (p ts)) → within set expr_ends ≡ true → Obeys any (λ a. ok) (read_allowed ok Deep set p') p
+  allowed true set p' p o others takes ends = record { at = λ ts. sim_wider true (p' ts) (p ts) refl (o.at ts); on = o.on; near = o.near }
+  allowed false set p' p o others takes ends = record { at = λ ts. by_first ts (begins set ts) refl; on = o.on; near = λ ts. suffix_cond ts (begins set ts) (Stop Deep ts) (p' ts) ([], refl) (o.near ts) } where
     other : (ts : Tokens) (x : Outcome A) → p' ts ≡ x → begins set ts ≡ false → Sim any always_fits x (p ts) → Sim any (λ a. false) x (p ts)
     other ts (Read a remaining) e n s = absurd (others ts a remaining n e)
     other ts (Stop UnexpectedToken remaining) e n h = h
     other ts (Stop Deep remaining) e n (inl h) = inl h
     other ts (Stop Wide remaining) e n h = h
-    other ts (Stop Deep remaining) e n (inr h) = inr (h.0, fails_always false (p ts) refl)
+    other ts (Stop Deep remaining) e n (inr h) = inr (h.0, fails_always false (p ts) refl, h.2)
 
     by_first : (ts : Tokens) (v : Bool) → begins set ts ≡ v → Sim any (λ a. false) (cond v (Stop Deep ts) (p' ts)) (p ts)
-    by_first ts true e = inr (o.on ts, fails_always false (p ts) refl)
+    by_first ts true e = inr (takes ts e, fails_always false (p ts) refl, begins_within set expr_ends ends ts e)
     by_first ts false e = other ts (p' ts) refl e (o.at ts)
 
-pub allowed_obeys : {A : Type 0} {any : Bool} (ok : Bool) (set : List Kind) (p' p : Reader A) → Obeys any always_fits p' p → ((ts : Tokens) (a : A) (remaining : Tokens) → begins set ts ≡ false → p' ts ≡ Read a remaining → ⊥) → Obeys any (λ a. ok) (read_allowed ok Deep set p') p
-allowed_obeys {any = any} ok set p' p o others = allowed any ok set p' p o others
+pub allowed_obeys : {A : Type 0} {any : Bool} (ok : Bool) (set : List Kind) (p' p : Reader A) → Obeys any always_fits p' p → ((ts : Tokens) (a : A) (remaining : Tokens) → begins set ts ≡ false → p' ts ≡ Read a remaining → ⊥)
+    → ((ts : Tokens) → begins set ts ≡ true → Beyond ts (p ts)) → within set expr_ends ≡ true → Obeys any (λ a. ok) (read_allowed ok Deep set p') p
+allowed_obeys {any = any} ok set p' p o others takes ends = allowed any ok set p' p o others takes ends
 
 -- ---- rows
 
@@ -360,7 +364,7 @@ module _ {A B : Type 0} (any : Bool) (set : List Kind) (ended : B → Bool) (q' 
   sim_round n b (Stop UnexpectedToken remaining) o next t e = (ap (rounds n b) e)
   sim_round n b (Stop Deep remaining) o next t (inl e) = inl (ap (rounds n b) e)
   sim_round n b (Stop Wide remaining) o next t e = (e.0, wide_too any remaining o (rounds n b o) (λ ts. suffix_round set ended q step (λ x. (h x).on) n b ts o (suffix_items set ended q step (λ x. (h x).on) n)) (λ cause z. ap (rounds n b) z) e.1)
-  sim_round n b (Stop Deep remaining) o next t (inr e) = inr (suffix_round set ended q step (λ x. (h x).on) n b remaining o (suffix_items set ended q step (λ x. (h x).on) n) e.0, fails_item n b o e.1)
+  sim_round n b (Stop Deep remaining) o next t (inr e) = inr (beyond_too remaining o (rounds n b o) (λ ts. suffix_round set ended q step (λ x. (h x).on) n b ts o (suffix_items set ended q step (λ x. (h x).on) n)) e.0, fails_item n b o e.1, e.2)
 
   sim_rows : (n : ℕ) (b : B) (ts : Tokens) → test b ≡ true → Sim any test (more' n b ts) (more n b ts)
   sim_rows zero b ts t = (refl, t)
@@ -390,7 +394,7 @@ module _ {A B : Type 0} (any : Bool) (set : List Kind) (ended : B → Bool) (q' 
   sim_row (Stop UnexpectedToken remaining) o e = (ap (λ x. and_then x rows) e)
   sim_row (Stop Deep remaining) o (inl e) = inl (ap (λ x. and_then x rows) e)
   sim_row (Stop Wide remaining) o e = (e.0, wide_too any remaining o (and_then o rows) (λ ts. suffix_row set ended q step (λ x. (h x).on) ts o) (λ cause z. ap (λ x. and_then x rows) z) e.1)
-  sim_row (Stop Deep remaining) o (inr e) = inr (suffix_row set ended q step (λ x. (h x).on) remaining o e.0, fails_row o e.1)
+  sim_row (Stop Deep remaining) o (inr e) = inr (beyond_too remaining o (and_then o rows) (λ ts. suffix_row set ended q step (λ x. (h x).on) ts o) e.0, fails_row o e.1, e.2)
 
 pub row_obeys : {A B : Type 0} {any : Bool} (set : List Kind) (ended : B → Bool) (q' q : B → Reader A) (step : B → A → B) (test : B → Bool) (item : B → A → Bool)
     → ((b : B) (a : A) → test (step b a) ≡ (test b && item b a)) → ((b : B) → Obeys any (item b) (q' b) (q b)) → {p' p : Reader B} → Obeys any test p' p

@@ -12,13 +12,14 @@ use Rattle.smv_expr.specs.Language.{Tokens, word, either, mapped, begins, has, n
 use Rattle.smv_expr.specs.Reading.{Cause, Alike, Outcome, Reader, and_then, read_both, read_mapped, read_opt, read_deep}
 use Rattle.smv_expr.specs.Reading.Outcome.{Read, Stop}
 use Rattle.smv_expr.specs.Reading.Cause.{UnexpectedToken, Wide, Deep}
+use Rattle.smv_expr.specs.Answer.{openers}
 use Rattle.smv_expr.specs.ExprGrammar.{number_expr}
 use Rattle.smv_expr.specs.ExprGrammar as g
-use Rattle.smv_expr.specs.ExprReaders.{first_signed, interval_of, read_limited, read_last, read_up_to, read_interval_expr, read_single, read_number, read_too_deep}
+use Rattle.smv_expr.specs.ExprReaders.{first_expr, first_signed, interval_of, read_limited, read_last, read_up_to, read_interval_expr, read_single, read_number, read_too_deep}
 use Rattle.smv_expr.proofs.Nesting.{IsUnder, Begins, at_limit, deepest}
 use Rattle.smv_expr.proofs.Rules.{Rule, Good, IsLang, Halts, Covers, Starts, begins-append, begins-next, alike_next, either_lang}
 use Rattle.smv_expr.proofs.Words.{always, map, is_barred, has_number, starts_word, starts_leaf, starts_dep, starts_mapped, kinds_have, some_token, within_itself}
-use Rattle.smv_expr.proofs.Sets.{begins_apart, begins_none, begins_within}
+use Rattle.smv_expr.proofs.Sets.{within, begins_apart, begins_none, begins_within}
 
 pub starts_up_to : (any : Bool) → Starts (k.DotDot ∷ []) (λ m. g.up_to any)
 unfolding same_kind
@@ -121,7 +122,7 @@ same_begins (t ∷ t' ∷ prefix) remaining y n h = refl
 alike_begins : (y remaining : Tokens) → Alike Deep y remaining → begins_interval y ≡ begins_interval remaining
 alike_begins y remaining a = ap (λ v. v && followed_by k.DotDot y) (begins-next number_kinds y remaining a.0) ∙ ap (λ v. begins number_kinds remaining && v) a.1
 
-of_kinds_has : {A : Type 0} (kinds : List Kind) (f : Token → A) (t : Token) → has kinds t.kind ≡ true → of_kinds kinds f t ≡ Some (f t)
+pub of_kinds_has : {A : Type 0} (kinds : List Kind) (f : Token → A) (t : Token) → has kinds t.kind ≡ true → of_kinds kinds f t ≡ Some (f t)
 of_kinds_has kinds f t h = ap (λ v. cond v (Some (f t)) None) h
 
 left_true : (v w : Bool) → v && w ≡ true → v ≡ true
@@ -133,7 +134,7 @@ right_true true w e = e
 right_true false w e = cc
 
 -- a numeral within the limit is one that each text may have
-numeral_stands : (any : Bool) → has (numeral_kinds any) k.Numeral ≡ true
+pub numeral_stands : (any : Bool) → has (numeral_kinds any) k.Numeral ≡ true
 unfolding same_kind
 numeral_stands true = refl
 numeral_stands false = refl
@@ -229,7 +230,7 @@ module _ {limit : ℕ} (any : Bool) {U : ℕ → Expr → Tokens → Type 0} {u 
 
   interval_stops : (cause : Cause) (ts remaining y : Tokens) → (w : Halts limit (λ m. g.negative_interval any) (always []) cause ts remaining) → begins_interval ts ≡ true → is_barred any ts ≡ false → Alike cause y remaining → begins_interval (w.prefix ++ y) ≡ true
   interval_stops cause ts remaining y w t b n = same_begins w.prefix remaining y (alike_next cause y remaining n) (at_first cause w n) ∙ ap begins_interval (sym w.split) ∙ t where
-    met : (cause : Cause) (w : Halts limit (λ m. g.negative_interval any) (always []) cause ts remaining) → ((m : ℕ) → Covers limit cause m) → ((x : Tokens) → next_of x ≡ next_of remaining → Alike cause x remaining) → w.prefix ≡ [] → ⊥
+    met : (cause : Cause) (w : Halts limit (λ m. g.negative_interval any) (always []) cause ts remaining) → ((m : ℕ) → Covers limit cause remaining m) → ((x : Tokens) → next_of x ≡ next_of remaining → Alike cause x remaining) → w.prefix ≡ [] → ⊥
     met cause w covers alike none =
         let same : ts ≡ remaining = w.split ∙ ap (λ x. x ++ remaining) none in
         let i = some_interval any ts t b in
@@ -245,21 +246,21 @@ module _ {limit : ℕ} (any : Bool) {U : ℕ → Expr → Tokens → Type 0} {u 
     only : (m : ℕ) (y f r : Tokens) (b : Expr) → next_of y ≡ next_of remaining → f ++ r ≡ w.prefix ++ y → Negated m b f → begins follow r ≡ false → (b ≡ a) × (f ≡ w.prefix) × (r ≡ y)
     only m y f r b n e (inl h) z = w.only m y f r b n e h (begins_none r)
     only m y f r b n e (inr h) z = absurd (apart m b a f r (w.prefix ++ y) y e (interval_begins any a w.prefix y w.reads) h z)
-  take_interval ts (Stop cause remaining) t bar w = record { prefix = w.prefix; split = w.split; depth = w.depth; value = w.value; more = w.more; viable = inl w.viable; begun = w.begun; dead = dead } where
-    dead : (m : ℕ) (y f r : Tokens) (b : Expr) → Covers limit cause m → Alike cause y remaining → f ++ r ≡ w.prefix ++ y → Negated m b f → begins follow r ≡ false → ⊥
+  take_interval ts (Stop cause remaining) t bar w = record { prefix = w.prefix; split = w.split; depth = w.depth; value = w.value; more = w.more; viable = inl w.viable; begun = w.begun; near = w.near; dead = dead } where
+    dead : (m : ℕ) (y f r : Tokens) (b : Expr) → Covers limit cause remaining m → Alike cause y remaining → f ++ r ≡ w.prefix ++ y → Negated m b f → begins follow r ≡ false → ⊥
     dead m y f r b u n e (inl h) z = w.dead m y f r b u n e h (begins_none r)
     dead m y f r b u n e (inr h) z = apart m b b f r (w.prefix ++ y) y e (interval_stops cause ts remaining y w t bar n) h z
 
   negated_stops : (cause : Cause) (ts remaining y : Tokens) → (w : Halts limit (λ m. mapped e.Neg (U m)) (always follow) cause ts remaining) → begins_interval ts ≡ false → is_barred any ts ≡ false → Alike cause y remaining → begins_interval (w.prefix ++ y) ≡ false
   negated_stops cause ts remaining y w t b n = same_begins w.prefix remaining y (alike_next cause y remaining n) (at_first cause w n) ∙ ap begins_interval (sym w.split) ∙ t where
-    met : (cause : Cause) (w : Halts limit (λ m. mapped e.Neg (U m)) (always follow) cause ts remaining) → ((m : ℕ) → Covers limit cause m) → ((x : Tokens) → next_of x ≡ next_of remaining → Alike cause x remaining) → w.prefix ≡ [] → (x : Tokens) → x ≡ remaining → begins number_kinds x ≡ true → ⊥
+    met : (cause : Cause) (w : Halts limit (λ m. mapped e.Neg (U m)) (always follow) cause ts remaining) → ((m : ℕ) → Covers limit cause remaining m) → ((x : Tokens) → next_of x ≡ next_of remaining → Alike cause x remaining) → w.prefix ≡ [] → (x : Tokens) → x ≡ remaining → begins number_kinds x ≡ true → ⊥
     met cause w covers alike none [] same h = cc
     met cause w covers alike none (x ∷ more) same h =
         let bar : is_barred any (x ∷ more) ≡ false = ap (is_barred any) (same ∙ sym (w.split ∙ ap (λ z. z ++ remaining) none)) ∙ b in
         let one = single x (may_stand any x more h bar) in
         w.dead one.0 (x ∷ []) (x ∷ []) [] (e.Neg one.1) (covers one.0) (alike (x ∷ []) (ap next_of same)) (ap (λ z. z ++ x ∷ []) (sym none)) (one.1, one.2, refl) refl
 
-    by_number : (cause : Cause) (w : Halts limit (λ m. mapped e.Neg (U m)) (always follow) cause ts remaining) → ((m : ℕ) → Covers limit cause m) → ((x : Tokens) → next_of x ≡ next_of remaining → Alike cause x remaining) → next_of y ≡ next_of remaining → w.prefix ≡ [] → (v : Bool) → begins number_kinds remaining ≡ v → begins_interval y ≡ begins_interval remaining
+    by_number : (cause : Cause) (w : Halts limit (λ m. mapped e.Neg (U m)) (always follow) cause ts remaining) → ((m : ℕ) → Covers limit cause remaining m) → ((x : Tokens) → next_of x ≡ next_of remaining → Alike cause x remaining) → next_of y ≡ next_of remaining → w.prefix ≡ [] → (v : Bool) → begins number_kinds remaining ≡ v → begins_interval y ≡ begins_interval remaining
     by_number cause w covers alike n none true e = absurd (met cause w covers alike none remaining refl e)
     by_number cause w covers alike n none false e = first_false _ _ (begins-next number_kinds y remaining n ∙ e) ∙ sym (first_false _ _ e)
 
@@ -279,8 +280,8 @@ module _ {limit : ℕ} (any : Bool) {U : ℕ → Expr → Tokens → Type 0} {u 
     only : (m : ℕ) (y f r : Tokens) (b : Expr) → next_of y ≡ next_of remaining → f ++ r ≡ w.prefix ++ y → Negated m b f → begins follow r ≡ false → (b ≡ a) × (f ≡ w.prefix) × (r ≡ y)
     only m y f r b n e (inl h) z = absurd (no_interval b f r (w.prefix ++ y) e (here y n) h)
     only m y f r b n e (inr h) z = w.only m y f r b n e h z
-  take_negated ts (Stop cause remaining) t bar w = record { prefix = w.prefix; split = w.split; depth = w.depth; value = w.value; more = w.more; viable = inr w.viable; begun = w.begun; dead = dead } where
-    dead : (m : ℕ) (y f r : Tokens) (b : Expr) → Covers limit cause m → Alike cause y remaining → f ++ r ≡ w.prefix ++ y → Negated m b f → begins follow r ≡ false → ⊥
+  take_negated ts (Stop cause remaining) t bar w = record { prefix = w.prefix; split = w.split; depth = w.depth; value = w.value; more = w.more; viable = inr w.viable; begun = w.begun; near = w.near; dead = dead } where
+    dead : (m : ℕ) (y f r : Tokens) (b : Expr) → Covers limit cause remaining m → Alike cause y remaining → f ++ r ≡ w.prefix ++ y → Negated m b f → begins follow r ≡ false → ⊥
     dead m y f r b u n e (inl h) z = no_interval b f r (w.prefix ++ y) e (negated_stops cause ts remaining y w t bar n) h
     dead m y f r b u n e (inr h) z = w.dead m y f r b u n e h z
 
@@ -304,6 +305,7 @@ module _ {limit : ℕ} (any : Bool) {U : ℕ → Expr → Tokens → Type 0} {u 
     more = iu.lang.text;
     viable = inr (iu.lang.value, iu.lang.reads, refl);
     begun = tt;
+    near = tt;
     dead = λ m y f r b u n q h z. bar_dead ts bar m y f r b n q h;
   })
 
@@ -321,11 +323,11 @@ module _ {limit : ℕ} (any : Bool) {U : ℕ → Expr → Tokens → Type 0} {u 
   }
 
 -- the rule where no construct may be opened
-pub at_depth_limit : {A : Type 0} {F E : ℕ → A → Tokens → Type 0} (any : Bool) (first : List Kind) (g : A → List Kind) → IsUnder F E → IsLang E → Starts first E
-    → ((m : ℕ) (a : A) (f : Tokens) → E m a f → IsSmall any f) → ((ts : Tokens) → begins first ts ≡ true → is_barred any ts ≡ false → Begins E ts) → Rule 0 E g (read_too_deep any first)
+pub at_depth_limit : {A : Type 0} {F E : ℕ → A → Tokens → Type 0} (any : Bool) (first : List Kind) (g : A → List Kind) → within first first_expr ≡ true → IsUnder F E → IsLang E → Starts first E
+    → ((a : A) (f : Tokens) → F 0 a f → begins openers f ≡ false) → ((m : ℕ) (a : A) (f : Tokens) → E m a f → IsSmall any f) → ((ts : Tokens) → begins first ts ≡ true → is_barred any ts ≡ false → Begins E ts) → Rule 0 E g (read_too_deep any first)
 unfolding read_too_deep
-at_depth_limit true first g under l starts small texts = at_limit first g under l starts (λ ts b. texts ts b refl)
-at_depth_limit {A = A} {E = E} false first g under l starts small texts = record { lang = l; good = λ ts. by_wide ts (begins (k.WideNumeral ∷ []) ts) refl } where
+at_depth_limit true first g inside under l starts lone small texts = at_limit first g inside under l starts lone (λ ts b. texts ts b refl)
+at_depth_limit {A = A} {E = E} false first g inside under l starts lone small texts = record { lang = l; good = λ ts. by_wide ts (begins (k.WideNumeral ∷ []) ts) refl } where
   by_wide : (ts : Tokens) (v : Bool) → begins (k.WideNumeral ∷ []) ts ≡ v → Good 0 E g ts (cond v (Stop Wide ts) (read_deep first ts))
   by_wide ts true h = record {
     prefix = [];
@@ -335,6 +337,7 @@ at_depth_limit {A = A} {E = E} false first g under l starts small texts = record
     more = l.text;
     viable = l.reads;
     begun = tt;
+    near = tt;
     dead = λ m y f r b u n e t z. barred_apart false ts y f r e n (small m b f t) h;
   }
-  by_wide ts false h = deepest under l first starts g ts (λ b. texts ts b h)
+  by_wide ts false h = deepest under l first inside starts lone g ts (λ b. texts ts b h)

@@ -28,7 +28,7 @@ module _ {A : Type 0} (limit : ℕ) (L : ℕ → A → Tokens → Type 0) (l : I
   follow_more ended b = follow_by (ended || ends_in ends b) full follow_open
 
   until_lang : IsLang (λ m. until ends (L m))
-  until_lang = record { up = λ m n b ts h. (until_inside {L = L m} {L' = L (m + n)} ends (record { at = l.up m n })).at b ts h; depth = 0; value = []; text = []; reads = refl }
+  until_lang = record { up = λ m n b ts h. (until_inside {L = L m} {L' = L (m + n)} ends (record { at = l.up m n })).at b ts h; depth = 0; shallow = omega arith; value = []; text = []; reads = refl }
 
   more_lang : (ended : Bool) → IsLang (MoreItems ended)
   more_lang true = rules.nothing_lang []

@@ -1,12 +1,14 @@
 -- What a reader owes to its language, and that each way to put readers together keeps it. Nothing here speaks of
 -- a grammar: the readers of other texts are proved by the same rules.
-use Rattle.std.proofs.Common.{◌≡◌, ℕ, zero, suc, ◌+◌, ◌≤◌, Bool, true, false, List, [], ◌∷◌, ◌++◌, length, Option, Some, None, refl, sym, ◌∙◌, ap, subst, append_assoc, arith, length-append, inl, inr, cond}
+use Rattle.std.proofs.Common.{◌≡◌, ℕ, zero, suc, ◌+◌, ◌-◌, ◌≤◌, max, Bool, true, false, List, [], ◌∷◌, ◌++◌, length, Option, Some, None, refl, sym, ◌∙◌, ap, subst, append_assoc, arith, length-append, inl, inr, cond}
 use Rattle.smv_expr.specs.declared.kind.Kind.{Kind}
 use Rattle.smv_expr.specs.Lexicon.{Token}
 use Rattle.smv_expr.specs.Language.{Tokens, leaf, dep, both, many, either, mapped, nothing, begins, has, next_of}
 use Rattle.smv_expr.specs.Reading.{Cause, Alike, Outcome, Reader, and_then, read_if, read_leaf, read_dep, read_both, read_mapped, read_either, read_nothing}
 use Rattle.smv_expr.specs.Reading.Outcome.{Read, Stop}
 use Rattle.smv_expr.specs.Reading.Cause.{UnexpectedToken, Wide, Deep}
+use Rattle.smv_expr.specs.ExprReaders.{first_expr}
+use Rattle.smv_expr.specs.Answer.{opens}
 
 -- ---- what a reader owes
 
@@ -22,17 +24,23 @@ pub record Took {A : Type 0} (limit : ℕ) (L : ℕ → A → Tokens → Type 0)
   pub only : (m : ℕ) (y f r : Tokens) (b : A) → next_of y ≡ next_of remaining → f ++ r ≡ prefix ++ y → L m b f → begins (follow b) r ≡ false
       → (b ≡ a) × (f ≡ prefix) × (r ≡ y)
 
--- at which depths nothing can be read, for a cause
-abbrev pub Covers : ℕ → Cause → ℕ → Type 0
-Covers limit UnexpectedToken m = Unit {0}
-Covers limit Wide m = Unit {0}
-Covers limit Deep m = m ≤ limit
+-- at which depths nothing can be read, for a cause: where too many constructs are open, one that the next token opens counts
+abbrev pub Covers : ℕ → Cause → Tokens → ℕ → Type 0
+Covers limit UnexpectedToken remaining m = Unit {0}
+Covers limit Wide remaining m = Unit {0}
+Covers limit Deep remaining m = m ≤ limit + opens remaining
 
--- where too many constructs are open, what goes on begins with the next token
+-- how deep the text nests that goes on where too many constructs are open: one more, and one that the next token opens
+abbrev pub Near : Cause → ℕ → Tokens → ℕ → Type 0
+Near UnexpectedToken limit remaining depth = Unit {0}
+Near Wide limit remaining depth = Unit {0}
+Near Deep limit remaining depth = depth ≤ suc limit + opens remaining
+
+-- where too many constructs are open, what goes on begins with the next token, with which an expression begins
 abbrev pub Begun : Cause → Tokens → Tokens → Type 0
 Begun UnexpectedToken more remaining = Unit {0}
 Begun Wide more remaining = Unit {0}
-Begun Deep more remaining = (t : Token) × (next_of more ≡ Some t) × (next_of remaining ≡ Some t)
+Begun Deep more remaining = (t : Token) × (next_of more ≡ Some t) × (next_of remaining ≡ Some t) × (begins first_expr remaining ≡ true)
 
 begun_more : (cause : Cause) (more x remaining : Tokens) → Begun cause more remaining → Begun cause (more ++ x) remaining
 begun_more UnexpectedToken more x remaining h = tt
@@ -49,16 +57,18 @@ pub record Halts {A : Type 0} (limit : ℕ) (L : ℕ → A → Tokens → Type 0
   pub more : Tokens
   pub viable : L depth value (prefix ++ more)
   pub begun : Begun cause more remaining
-  pub dead : (m : ℕ) (y f r : Tokens) (b : A) → Covers limit cause m → Alike cause y remaining → f ++ r ≡ prefix ++ y → L m b f → begins (follow b) r ≡ false → ⊥
+  pub near : Near cause limit remaining depth
+  pub dead : (m : ℕ) (y f r : Tokens) (b : A) → Covers limit cause remaining m → Alike cause y remaining → f ++ r ≡ prefix ++ y → L m b f → begins (follow b) r ≡ false → ⊥
 
 abbrev pub Good : {A : Type 0} → ℕ → (ℕ → A → Tokens → Type 0) → (A → List Kind) → Tokens → Outcome A → Type 0
 Good limit L follow ts (Read a remaining) = Took limit L follow ts a remaining
 Good limit L follow ts (Stop cause remaining) = Halts limit L follow cause ts remaining
 
--- deeper nesting only adds texts, and some text there is
+-- deeper nesting only adds texts, and there is some text in which nothing nests
 pub record IsLang {A : Type 0} (L : ℕ → A → Tokens → Type 0) : Type 0 where
   pub up : (m n : ℕ) (a : A) (ts : Tokens) → L m a ts → L (m + n) a ts
   pub depth : ℕ
+  pub shallow : depth ≤ 1
   pub value : A
   pub text : Tokens
   pub reads : L depth value text
@@ -115,8 +125,26 @@ pair_is x y c p q = ap (λ u. (u, c.1)) p ∙ ap (λ v. (x, v)) q
 regroup : (f x y r w : Tokens) → f ≡ x ++ y → f ++ r ≡ w → x ++ (y ++ r) ≡ w
 regroup f x y r w s e = sym (append_assoc x y r) ∙ ap (λ z. z ++ r) (sym s) ∙ e
 
-up_right : {A : Type 0} (L : ℕ → A → Tokens → Type 0) → IsLang L → (m n : ℕ) (a : A) (ts : Tokens) → L n a ts → L (m + n) a ts
-up_right L l m n a ts h = let P : ℕ → Type 0 = λ k. L k a ts in subst P (omega arith) (l.up n m a ts h)
+up_to : {A : Type 0} (L : ℕ → A → Tokens → Type 0) → IsLang L → (m n : ℕ) (a : A) (ts : Tokens) → m ≤ n → L m a ts → L n a ts
+up_to L l m n a ts u h = let P : ℕ → Type 0 = λ k. L k a ts in subst P (omega (arith, u)) (l.up m (n - m) a ts h)
+
+left_max : (m n : ℕ) → m ≤ max m n
+left_max m n = omega arith
+
+right_max : (m n : ℕ) → n ≤ max m n
+right_max m n = omega arith
+
+-- the limit, and a depth that is near it
+near_limit : (cause : Cause) (limit : ℕ) (remaining : Tokens) (depth : ℕ) → Near cause limit remaining depth → Near cause limit remaining (max limit depth)
+near_limit UnexpectedToken limit remaining depth n = tt
+near_limit Wide limit remaining depth n = tt
+near_limit Deep limit remaining depth n = omega (arith, n)
+
+-- a depth that is near the limit, and that of a text in which nothing nests
+near_shallow : (cause : Cause) (limit : ℕ) (remaining : Tokens) (depth one : ℕ) → one ≤ 1 → Near cause limit remaining depth → Near cause limit remaining (max depth one)
+near_shallow UnexpectedToken limit remaining depth one s n = tt
+near_shallow Wide limit remaining depth one s n = tt
+near_shallow Deep limit remaining depth one s n = omega (arith, s, n)
 
 module _ {A B : Type 0} (limit : ℕ) (L : ℕ → A → Tokens → Type 0) (M : A → ℕ → B → Tokens → Type 0) where
   abbrev pub Dep : ℕ → A × B → Tokens → Type 0
@@ -125,10 +153,17 @@ module _ {A B : Type 0} (limit : ℕ) (L : ℕ → A → Tokens → Type 0) (M :
   pub dep_lang : IsLang L → ((a : A) → IsLang (M a)) → IsLang Dep
   dep_lang l k = record {
     up = λ m n v ts h. record { prefix = h.prefix; suffix = h.suffix; split = h.split; first = l.up m n v.0 h.prefix h.first; second = (k v.0).up m n v.1 h.suffix h.second };
-    depth = l.depth + (k l.value).depth;
+    depth = 1;
+    shallow = omega arith;
     value = (l.value, (k l.value).value);
     text = l.text ++ (k l.value).text;
-    reads = record { prefix = l.text; suffix = (k l.value).text; split = refl; first = l.up _ _ _ _ l.reads; second = up_right (M l.value) (k l.value) _ _ _ _ (k l.value).reads };
+    reads = record {
+      prefix = l.text;
+      suffix = (k l.value).text;
+      split = refl;
+      first = up_to L l l.depth 1 l.value l.text l.shallow l.reads;
+      second = up_to (M l.value) (k l.value) (k l.value).depth 1 (k l.value).value (k l.value).text (k l.value).shallow (k l.value).reads;
+    };
   }
 
   module _ (g : A → List Kind) (h : A → B → List Kind) (q : A → Reader B) (l : IsLang L) (k : (a : A) → IsLang (M a)) (follows : (a : A) → Leaves (g a) (h a) (M a)) where
@@ -153,11 +188,12 @@ module _ {A B : Type 0} (limit : ℕ) (L : ℕ → A → Tokens → Type 0) (M :
     second ts a remaining w (Stop cause remaining') v = record {
       prefix = w.prefix ++ v.prefix;
       split = w.split ∙ ap (λ z. w.prefix ++ z) v.split ∙ sym (append_assoc w.prefix v.prefix remaining');
-      depth = limit + v.depth;
+      depth = max limit v.depth;
       value = (a, v.value);
       more = v.more;
-      viable = record { prefix = w.prefix; suffix = v.prefix ++ v.more; split = append_assoc w.prefix v.prefix v.more; first = l.up _ _ _ _ w.reads; second = up_right (M a) (k a) _ _ _ _ v.viable };
+      viable = record { prefix = w.prefix; suffix = v.prefix ++ v.more; split = append_assoc w.prefix v.prefix v.more; first = up_to L l limit (max limit v.depth) a w.prefix (left_max limit v.depth) w.reads; second = up_to (M a) (k a) v.depth (max limit v.depth) v.value (v.prefix ++ v.more) (right_max limit v.depth) v.viable };
       begun = v.begun;
+      near = near_limit cause limit remaining' v.depth v.near;
       dead = λ m y f r c u n e b z.
           let one = w.only m (v.prefix ++ y) b.prefix (b.suffix ++ r) c.0 (next-append v.prefix y remaining' (alike_next cause y remaining' n) ∙ ap next_of (sym v.split))
           (regroup f b.prefix b.suffix r _ b.split e ∙ append_assoc w.prefix v.prefix y) b.first ((follows c.0).at m c.1 b.suffix r b.second z) in
@@ -171,11 +207,12 @@ module _ {A B : Type 0} (limit : ℕ) (L : ℕ → A → Tokens → Type 0) (M :
     first ts (Stop cause remaining) w next = record {
       prefix = w.prefix;
       split = w.split;
-      depth = w.depth + (k w.value).depth;
+      depth = max w.depth (k w.value).depth;
       value = (w.value, (k w.value).value);
       more = w.more ++ (k w.value).text;
-      viable = record { prefix = w.prefix ++ w.more; suffix = (k w.value).text; split = sym (append_assoc w.prefix w.more (k w.value).text); first = l.up _ _ _ _ w.viable; second = up_right (M w.value) (k w.value) _ _ _ _ (k w.value).reads };
+      viable = record { prefix = w.prefix ++ w.more; suffix = (k w.value).text; split = sym (append_assoc w.prefix w.more (k w.value).text); first = up_to L l w.depth (max w.depth (k w.value).depth) w.value (w.prefix ++ w.more) (left_max w.depth (k w.value).depth) w.viable; second = up_to (M w.value) (k w.value) (k w.value).depth (max w.depth (k w.value).depth) (k w.value).value (k w.value).text (right_max w.depth (k w.value).depth) (k w.value).reads };
       begun = begun_more cause w.more (k w.value).text remaining w.begun;
+      near = near_shallow cause limit remaining w.depth (k w.value).depth (k w.value).shallow w.near;
       dead = λ m y f r c u n e b z. w.dead m y b.prefix (b.suffix ++ r) c.0 u n (regroup f b.prefix b.suffix r _ b.split e) b.first ((follows c.0).at m c.1 b.suffix r b.second z);
     }
 
@@ -185,7 +222,7 @@ module _ {A B : Type 0} (limit : ℕ) (L : ℕ → A → Tokens → Type 0) (M :
 -- ---- one token
 
 pub leaf_lang : {A : Type 0} (f : Token → Option A) (t : Token) (a : A) → f t ≡ Some a → IsLang (λ m. leaf f)
-leaf_lang f t a e = record { up = λ m n b ts h. h; depth = 0; value = a; text = t ∷ []; reads = (t, refl, e) }
+leaf_lang f t a e = record { up = λ m n b ts h. h; depth = 0; shallow = omega arith; value = a; text = t ∷ []; reads = (t, refl, e) }
 
 module _ {A : Type 0} (limit : ℕ) (f : Token → Option A) (l : IsLang (λ m. leaf f)) where
   -- nothing at all stands there
@@ -202,6 +239,7 @@ module _ {A : Type 0} (limit : ℕ) (f : Token → Option A) (l : IsLang (λ m. 
     more = l.text;
     viable = l.reads;
     begun = tt;
+    near = tt;
     dead = λ m y g r b u n e w z. no_leaf ts y n none g r b e w;
   }
 
@@ -229,6 +267,7 @@ module _ {A B : Type 0} (limit : ℕ) (fun : A → B) (L : ℕ → A → Tokens 
   mapped_lang l = record {
     up = λ m n b ts h. (h.0, l.up m n h.0 ts h.1, h.2);
     depth = l.depth;
+    shallow = l.shallow;
     value = fun l.value;
     text = l.text;
     reads = (l.value, l.reads, refl);
@@ -253,13 +292,14 @@ module _ {A B : Type 0} (limit : ℕ) (fun : A → B) (L : ℕ → A → Tokens 
       more = w.more;
       viable = (w.value, w.viable, refl);
       begun = w.begun;
+      near = w.near;
       dead = λ m y f r c u n e h z. w.dead m y f r h.0 u n e h.1 (suffix r c h z);
     }
 
 -- ---- no token
 
 pub nothing_lang : {A : Type 0} (a : A) → IsLang (λ m. nothing a)
-nothing_lang a = record { up = λ m n b ts h. h; depth = 0; value = a; text = []; reads = (refl, refl) }
+nothing_lang a = record { up = λ m n b ts h. h; depth = 0; shallow = omega arith; value = a; text = []; reads = (refl, refl) }
 
 pub nothing_good : {A : Type 0} (limit : ℕ) (g : A → List Kind) (a : A) (ts : Tokens) → Good limit (λ m. nothing a) g ts (read_nothing a ts)
 nothing_good limit g a ts = record {
@@ -276,7 +316,7 @@ meets set ts prefix remaining y f r s n e = ap (begins set) e ∙ begins-next se
 
 module _ {A : Type 0} (limit : ℕ) (L M : ℕ → A → Tokens → Type 0) where
   pub either_lang : IsLang L → IsLang M → IsLang (λ m. either (L m) (M m))
-  either_lang l k = record { up = up; depth = l.depth; value = l.value; text = l.text; reads = inl l.reads } where
+  either_lang l k = record { up = up; depth = l.depth; shallow = l.shallow; value = l.value; text = l.text; reads = inl l.reads } where
     up : (m n : ℕ) (a : A) (ts : Tokens) → either (L m) (M m) a ts → either (L (m + n)) (M (m + n)) a ts
     up m n a ts (inl h) = inl (l.up m n a ts h)
     up m n a ts (inr h) = inr (k.up m n a ts h)
@@ -293,8 +333,8 @@ module _ {A : Type 0} (limit : ℕ) (L M : ℕ → A → Tokens → Type 0) wher
       only : (m : ℕ) (y f r : Tokens) (b : A) → next_of y ≡ next_of remaining → f ++ r ≡ w.prefix ++ y → either (L m) (M m) b f → begins (k b) r ≡ false → (b ≡ a) × (f ≡ w.prefix) × (r ≡ y)
       only m y f r b n e (inl x) z = w.only m y f r b n e x (g_in.at b r z)
       only m y f r b n e (inr x) z = absurd (not_right ts w.prefix remaining y f r m b v w.split n e x z)
-    left ts v (Stop cause remaining) w = record { prefix = w.prefix; split = w.split; depth = w.depth; value = w.value; more = w.more; viable = inl w.viable; begun = w.begun; dead = dead } where
-      dead : (m : ℕ) (y f r : Tokens) (b : A) → Covers limit cause m → Alike cause y remaining → f ++ r ≡ w.prefix ++ y → either (L m) (M m) b f → begins (k b) r ≡ false → ⊥
+    left ts v (Stop cause remaining) w = record { prefix = w.prefix; split = w.split; depth = w.depth; value = w.value; more = w.more; viable = inl w.viable; begun = w.begun; near = w.near; dead = dead } where
+      dead : (m : ℕ) (y f r : Tokens) (b : A) → Covers limit cause remaining m → Alike cause y remaining → f ++ r ≡ w.prefix ++ y → either (L m) (M m) b f → begins (k b) r ≡ false → ⊥
       dead m y f r b u n e (inl x) z = w.dead m y f r b u n e x (g_in.at b r z)
       dead m y f r b u n e (inr x) z = not_right ts w.prefix remaining y f r m b v w.split (alike_next cause y remaining n) e x z
 
@@ -303,8 +343,8 @@ module _ {A : Type 0} (limit : ℕ) (L M : ℕ → A → Tokens → Type 0) wher
       only : (m : ℕ) (y f r : Tokens) (b : A) → next_of y ≡ next_of remaining → f ++ r ≡ w.prefix ++ y → either (L m) (M m) b f → begins (k b) r ≡ false → (b ≡ a) × (f ≡ w.prefix) × (r ≡ y)
       only m y f r b n e (inr x) z = w.only m y f r b n e x (h_in.at b r z)
       only m y f r b n e (inl x) z = absurd (not_left ts w.prefix remaining y f r m b v w.split n e x)
-    right ts v (Stop cause remaining) w = record { prefix = w.prefix; split = w.split; depth = w.depth; value = w.value; more = w.more; viable = inr w.viable; begun = w.begun; dead = dead } where
-      dead : (m : ℕ) (y f r : Tokens) (b : A) → Covers limit cause m → Alike cause y remaining → f ++ r ≡ w.prefix ++ y → either (L m) (M m) b f → begins (k b) r ≡ false → ⊥
+    right ts v (Stop cause remaining) w = record { prefix = w.prefix; split = w.split; depth = w.depth; value = w.value; more = w.more; viable = inr w.viable; begun = w.begun; near = w.near; dead = dead } where
+      dead : (m : ℕ) (y f r : Tokens) (b : A) → Covers limit cause remaining m → Alike cause y remaining → f ++ r ≡ w.prefix ++ y → either (L m) (M m) b f → begins (k b) r ≡ false → ⊥
       dead m y f r b u n e (inr x) z = w.dead m y f r b u n e x (h_in.at b r z)
       dead m y f r b u n e (inl x) z = not_left ts w.prefix remaining y f r m b v w.split (alike_next cause y remaining n) e x
 
@@ -321,7 +361,7 @@ module _ {A : Type 0} (limit : ℕ) (L M : ℕ → A → Tokens → Type 0) wher
 pub same_good : {A : Type 0} (limit : ℕ) (L M : ℕ → A → Tokens → Type 0) → ((m : ℕ) (a : A) (ts : Tokens) → L m a ts → M m a ts) → ((m : ℕ) (a : A) (ts : Tokens) → M m a ts → L m a ts)
     → (g : A → List Kind) (ts : Tokens) (o : Outcome A) → Good limit L g ts o → Good limit M g ts o
 same_good limit L M to from g ts (Read a remaining) w = record { prefix = w.prefix; split = w.split; reads = to _ _ _ w.reads; only = λ m y f r b n e h z. w.only m y f r b n e (from m b f h) z }
-same_good limit L M to from g ts (Stop cause remaining) w = record { prefix = w.prefix; split = w.split; depth = w.depth; value = w.value; more = w.more; viable = to _ _ _ w.viable; begun = w.begun; dead = λ m y f r b u n e h z. w.dead m y f r b u n e (from m b f h) z }
+same_good limit L M to from g ts (Stop cause remaining) w = record { prefix = w.prefix; split = w.split; depth = w.depth; value = w.value; more = w.more; viable = to _ _ _ w.viable; begun = w.begun; near = w.near; dead = λ m y f r b u n e h z. w.dead m y f r b u n e (from m b f h) z }
 
 -- ---- any number
 
@@ -339,7 +379,7 @@ module _ {A : Type 0} (L : ℕ → A → Tokens → Type 0) (l : IsLang L) where
   many_up m n (a ∷ more) ts h = (h.0, h.1, h.2, l.up m n a h.0 h.3, many_up m n more h.1 h.4)
 
   pub many_lang : IsLang (λ m. many (L m))
-  many_lang = record { up = many_up; depth = 0; value = []; text = []; reads = refl }
+  many_lang = record { up = many_up; depth = 0; shallow = omega arith; value = []; text = []; reads = refl }
 
   abbrev OneRound : ℕ → List A → Tokens → Type 0
   OneRound m = either (mapped (λ v. v.0 ∷ v.1) (both (L m) (many (L m)))) (nothing [])

@@ -1,7 +1,7 @@
 -- What the spelling of a token is made of.
-use Rattle.std.proofs.Common.{◌≡◌, ℕ, zero, suc, ◌≤◌, ◌<◌, Bool, true, false, ◌&&◌, List, [], ◌∷◌, length, take, take_while, refl, sym, ap, subst, arith}
-use Rattle.std.specs.Prelude.{nat_le, nat_lt, nat_eq, not, All}
-use Rattle.std.specs.List.{starts_with}
+use Rattle.std.proofs.Common.{◌≡◌, ℕ, zero, suc, ◌≤◌, ◌<◌, Bool, true, false, ◌&&◌, List, [], ◌∷◌, length, take, take_while, refl, sym, ◌∙◌, ap, subst, arith, cond, ◌||◌}
+use Rattle.std.specs.Prelude.{nat_le, nat_lt, nat_eq, not, All, ◌==◌}
+use Rattle.std.specs.List.{starts_with, list_all}
 use Rattle.std.specs.Cmp.Lexicographic.{same_text}
 use Rattle.std.proofs.lemmas.Bool.Decides.{nat_tests}
 use Rattle.std.proofs.lemmas.List.Folds.{length-prefix_len}
@@ -10,6 +10,7 @@ use Rattle.smv_expr.specs.declared.kind.Kind.{Kind}
 use Rattle.smv_expr.specs.declared.kind.Kind.TheVariants as k
 use Rattle.smv_expr.specs.declared.lexeme.Lexeme.{Lexeme}
 use Rattle.smv_expr.specs.Lexicon.{Bytes, is_blank, is_letter, is_digit, is_name_part, words, marks, find_word, find_mark, word_lexeme, numeral_kind, numeral_lexeme, mark_lexeme, begins_comment, first_lexeme, same_kind, IsNumeral, AreDigits, numeral_value, greatest_number}
+use Rattle.smv_expr.specs.RoundTrip.{is_name, is_small}
 use Rattle.smv_expr.proofs.Booleans.{by_test, both_left, both_right, not_true, clash}
 
 -- ---- a run of bytes
@@ -139,3 +140,42 @@ left_out_ascii l (b ∷ more) e some h = subst (Spells k.LeftOut (All (λ c. c <
 pub numeral_digits : (l : Lexeme) (text : Bytes) → l ≡ first_lexeme text → 0 < length text → same_kind l.kind k.Numeral ≡ true → IsNumeral (take l.len text)
 numeral_digits l [] e some h = absurd (omega arith)
 numeral_digits l (b ∷ more) e some h = subst (Spells k.Numeral IsNumeral (b ∷ more)) (sym e) (numeral_spells b more) h
+
+-- ---- names
+
+both : (v w : Bool) → v ≡ true → w ≡ true → v && w ≡ true
+both true true e f = refl
+both true false e f = cc
+both false w e f = cc
+
+each_part : (text : Bytes) → list_all is_name_part (take_while is_name_part text) ≡ true
+each_part [] = refl
+each_part (b ∷ more) = subst (λ (x : Bytes). list_all is_name_part x ≡ true) (sym (take_while-cons is_name_part b more))
+    (by_test (λ (x : Bytes). list_all is_name_part x ≡ true) (is_name_part b) (b ∷ take_while is_name_part more) [] (λ e. both _ _ e (each_part more)) (λ e. refl))
+
+letter_part : (b : ℕ) → is_letter b ≡ true → is_name_part b ≡ true
+letter_part b e = ap (λ v. v || (is_digit b || (b == 36 || b == 35))) e
+
+named : (b : ℕ) (more : Bytes) → is_letter b ≡ true → same_kind (find_word words (take_while is_name_part (b ∷ more))) k.Name ≡ true → is_name (take_while is_name_part (b ∷ more)) ≡ true
+named b more e h =
+    let run : take_while is_name_part (b ∷ more) ≡ b ∷ take_while is_name_part more = take_while-cons is_name_part b more ∙ ap (λ v. cond v (b ∷ take_while is_name_part more) []) (letter_part b e) in
+    subst (λ (x : Bytes). is_name x ≡ true) (sym run) (both _ _ (both _ _ e (each_part more)) (subst (λ (x : Bytes). same_kind (find_word words x) k.Name ≡ true) run h))
+
+name_is : (b : ℕ) (more : Bytes) → Spells k.Name (λ x. is_name x ≡ true) (b ∷ more) (first_lexeme (b ∷ more))
+unfolding first_lexeme word_lexeme numeral_lexeme mark_lexeme marks same_kind
+name_is b more = let known : Bytes → Type 0 = λ x. is_name x ≡ true in
+    by_test (Spells k.Name known (b ∷ more)) (is_blank b) _ _ (λ e h. absurd (clash _ h refl)) (λ e0.
+    by_test (Spells k.Name known (b ∷ more)) (begins_comment (b ∷ more)) _ _ (λ e h. absurd (clash _ h refl)) (λ e1.
+    by_test (Spells k.Name known (b ∷ more)) (is_letter b) _ _ (λ e h. subst known (sym (take_run is_name_part (b ∷ more))) (named b more e h)) (λ e2.
+    by_test (Spells k.Name known (b ∷ more)) (is_digit b) _ _
+    (λ e h. absurd (clash _ h (numeral_kind_other k.Name (take_while is_digit (b ∷ more)) refl refl)))
+    (λ e3 h. absurd (clash _ h (find_mark_other k.Name marks (b ∷ more) refl refl))))))
+
+pub name_spelled : (b : ℕ) (more : Bytes) → same_kind (first_lexeme (b ∷ more)).kind k.Name ≡ true → is_name (take (first_lexeme (b ∷ more)).len (b ∷ more)) ≡ true
+name_spelled b more h = name_is b more h
+
+small_is : (n : ℕ) → n ≤ greatest_number → is_small n ≡ true
+small_is n u = grind (arith, nat_tests)
+
+pub numeral_spelled : (b : ℕ) (more : Bytes) → same_kind (first_lexeme (b ∷ more)).kind k.Numeral ≡ true → is_small (numeral_value (take (first_lexeme (b ∷ more)).len (b ∷ more))) ≡ true
+numeral_spelled b more h = let n = numeral_spells b more h in small_is (numeral_value (take (first_lexeme (b ∷ more)).len (b ∷ more))) n.within

@@ -158,6 +158,7 @@ tok_digits {limit = limit} false = record { lang = lang; good = λ ts. by_wide t
     more = lang.text;
     viable = lang.reads;
     begun = tt;
+    near = tt;
     dead = λ m y f r b u n e w z. not_barred ts y f r e n ((starts_numeral (k.Numeral ∷ []) (within_itself k.Numeral)).at m b f w) h;
   })
   by_wide ts false h = subst (λ (o : Outcome (ℕ × Span)). Good limit (λ m. digits false) (λ a. []) ts o) (sym (narrow_digits ts h)) ((tok_numeral {limit = limit}).good ts)
@@ -225,7 +226,7 @@ same {A = A} {limit = limit} {L = L} {g = g} q e a = record { lang = a.lang; goo
 pub swap : {A : Type 0} {limit : ℕ} {L : ℕ → A → Tokens → Type 0} {g : A → List Kind} {p : Reader A} (M : ℕ → A → Tokens → Type 0)
     → ((m : ℕ) (a : A) (ts : Tokens) → L m a ts → M m a ts) → ((m : ℕ) (a : A) (ts : Tokens) → M m a ts → L m a ts) → Rule limit L g p → Rule limit M g p
 swap {limit = limit} {L = L} {g = g} {p = p} M to from r = record {
-  lang = record { up = λ m n a ts h. to (m + n) a ts (r.lang.up m n a ts (from m a ts h)); depth = r.lang.depth; value = r.lang.value; text = r.lang.text; reads = to _ _ _ r.lang.reads };
+  lang = record { up = λ m n a ts h. to (m + n) a ts (r.lang.up m n a ts (from m a ts h)); depth = r.lang.depth; shallow = r.lang.shallow; value = r.lang.value; text = r.lang.text; reads = to _ _ _ r.lang.reads };
   good = λ ts. rules.same_good limit L M to from g ts (p ts) (r.good ts);
 }
 

@@ -1,8 +1,9 @@
 -- What is answered of a whole text, by a reader of a language whose texts nest.
-use Rattle.std.specs.Prelude.{◌≡◌, ℕ, ◌≤◌, Bool, true, false, if◌then◌else◌, [], ◌∷◌, ◌++◌, length, Some, Result, Ok, Err}
+use Rattle.std.specs.Prelude.{◌≡◌, ℕ, suc, ◌+◌, ◌≤◌, ◌⊎◌, Bool, true, false, if◌then◌else◌, List, [], ◌∷◌, ◌++◌, length, Some, Result, Ok, Err}
 use Rattle.smv_ast.specs.declared.syntax.Span.{Span}
 use Rattle.smv_ast.specs.declared.fault.Fault.{Fault}
 use Rattle.smv_ast.specs.declared.fault.Fault.TheVariants as fault
+use Rattle.smv_expr.specs.declared.kind.Kind.{Kind}
 use Rattle.smv_expr.specs.declared.kind.Kind.TheVariants as k
 use Rattle.smv_expr.specs.declared.error.ReadError.{ReadError}
 use Rattle.smv_expr.specs.declared.error.ReadError.TheVariants as error
@@ -12,6 +13,7 @@ use Rattle.smv_expr.specs.Reading.{Outcome, Reader, remaining_of}
 use Rattle.smv_expr.specs.Reading.Outcome.{Read, Stop}
 use Rattle.smv_expr.specs.Reading.Cause.{UnexpectedToken, Wide, Deep}
 use Rattle.smv_expr.specs.Limits.{nesting_bound}
+use Rattle.smv_expr.specs.ExprReaders.{first_expr}
 
 -- ---- what a list of tokens is
 
@@ -72,10 +74,44 @@ pub record GoesOnWithin {A : Type 0} (G : Bool → ℕ → A → Tokens → Type
   pub reads : G false nesting_bound value (prefix ++ more)
   pub low : is_low value ≡ true
 
--- A text with numerals within the limit begins with the tokens before the remaining ones. No text within the limits begins
--- with the tokens up to the next one, and the list is none, whatever its numerals are.
+-- the tokens that open a construct of an expression, the word of `next(` among them; a `-` opens one only where it negates
+abbrev pub openers : List Kind
+openers = k.OpenParen ∷ k.OpenBrace ∷ k.Case ∷ k.Not ∷ k.Next ∷ k.Implies ∷ []
+
+-- how many constructs the next token opens
+unfoldable pub opens : Tokens → ℕ
+opens ts = if begins openers ts then 1 else 0
+
+-- the tokens with which an expression may end
+abbrev pub expr_ends : List Kind
+expr_ends = k.True ∷ k.False ∷ k.Numeral ∷ k.Name ∷ k.CloseParen ∷ k.CloseBrace ∷ k.Esac ∷ []
+
+-- Some text begins with these tokens and the next of the remaining ones, with fewer constructs open at each point than the
+-- number.
+pub record GoesOnBelow {A : Type 0} (G : Bool → ℕ → A → Tokens → Type 0) (number : ℕ) (prefix remaining : Tokens) : Type 0 where
+  pub depth : ℕ
+  pub below : depth ≤ number
+  pub more : Tokens
+  pub next : next_of more ≡ next_of remaining
+  pub value : A
+  pub viable : G false depth value (prefix ++ more)
+
+-- The next token begins an expression, and a thousand and one constructs are open before it. Beside the one that the token
+-- opens itself, a text that begins with the tokens up to it, with `..` after it or not as here, has more than a thousand open
+-- at some point; and some text has no more than a thousand and one.
+pub record HasTooManyOpen {A : Type 0} (G : Bool → ℕ → A → Tokens → Type 0) (prefix remaining : Tokens) : Type 0 where
+  pub begun : begins first_expr remaining ≡ true
+  pub live : GoesOnBelow G (suc nesting_bound + opens remaining) prefix remaining
+  pub dead : (m : ℕ) (y : Tokens) (a : A) → m ≤ nesting_bound + opens remaining → next_of y ≡ next_of remaining
+      → followed_by k.DotDot y ≡ followed_by k.DotDot remaining → G false m a (prefix ++ y) → ⊥
+
+-- A text with numerals within the limit begins with the tokens up to the next one. Before that a thousand and one
+-- constructs are open, or it is one with which an expression may end. No text within the limits begins with the tokens up to
+-- it, and the list is none, whatever its numerals are.
 pub record StopsDeep {A : Type 0} (G : Bool → ℕ → A → Tokens → Type 0) (is_low : A → Bool) (ts remaining : Tokens) : Type 0 where
   pub before : IsViable (small G) ts remaining
+  pub live : GoesOn (small G) before.prefix remaining
+  pub cause : HasTooManyOpen G before.prefix remaining ⊎ (begins expr_ends remaining ≡ true)
   pub dead : GoesOnWithin G is_low before.prefix remaining → ⊥
   pub unfit : (m : ℕ) (a : A) → m ≤ nesting_bound → G true m a ts → is_low a ≡ true → ⊥
 

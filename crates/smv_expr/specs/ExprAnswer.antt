@@ -6,10 +6,9 @@ use Rattle.smv_expr.specs.Lexicon.{Bytes, tokens}
 use Rattle.smv_expr.specs.Reading.{Reader}
 use Rattle.smv_expr.specs.Answer.{Answers, IsText}
 use Rattle.smv_expr.specs.Heights.{height}
-use Rattle.smv_expr.specs.Limits.{nesting_bound}
-use Rattle.smv_expr.specs.Limits.Limit.{Below}
+use Rattle.smv_expr.specs.Limits.{nesting_bound, the_limit}
 use Rattle.smv_expr.specs.ExprGrammar.{expr}
-use Rattle.smv_expr.specs.ExprReaders.{read_expr}
+use Rattle.smv_expr.specs.ExprReaders.{read_whole_expr}
 
 -- its tree is no higher than a thousand
 abbrev pub is_low : Expr → Bool
@@ -17,7 +16,7 @@ is_low a = nat_lt (height a) nesting_bound
 
 -- the reader of expressions within the limits
 abbrev pub limited_expr : Reader Expr
-limited_expr = read_expr nesting_bound (Below nesting_bound)
+limited_expr = read_whole_expr the_limit
 
 -- what is answered of the bytes of a file, unless memory runs out
 abbrev pub ExprAnswer : ℕ → Bytes → Result Expr Fault → Type 0

@@ -18,7 +18,7 @@ use Rattle.smv_expr.specs.Reading.Cause.{Wide, Deep}
 use Rattle.smv_expr.specs.ExprGrammar.{number_expr, branch_of, cases_of}
 use Rattle.smv_expr.specs.ExprGrammar.{term_operators, sum_operators, comparisons, and_operators, or_operators, iff_operators, joined, Operand, is_closed, open_operand, closed_operand, joined_operand, never_ends, within_operand, implied, path_of, negative_interval_of}
 use Rattle.smv_expr.specs.Heights.{height, choice_height}
-use Rattle.smv_expr.specs.Limits.{Limit, any_number, fits, inside, beside, fresh_limit}
+use Rattle.smv_expr.specs.Limits.{Limit, nesting_bound, any_number, fits, inside, beside, fresh_limit}
 
 -- ---- what the parts begin with
 
@@ -342,3 +342,7 @@ unfoldable mutual
   read_signed_expr zero limit ts = read_too_deep (any_number limit) first_unary ts
   read_signed_expr (suc m) limit ts = read_negatable (read_expr m) (read_not m) (read_signed_expr m)
       limit ts
+
+-- an expression of a whole text, in which a thousand constructs may be open
+abbrev pub read_whole_expr : Limit → Reader Expr
+read_whole_expr = read_expr nesting_bound

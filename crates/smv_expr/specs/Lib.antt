@@ -8,5 +8,6 @@ pub mod Heights
 pub mod Limits
 pub mod Answer
 pub mod Nests
+pub mod Names
 pub mod ExprAnswer
 pub mod RoundTrip

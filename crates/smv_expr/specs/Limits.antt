@@ -41,3 +41,7 @@ beside height (Below bound) = Below (if nat_lt (capped height) (bound - 1) then 
 abbrev pub fresh_limit : Limit → Limit
 fresh_limit (AnyHeight any) = AnyHeight any
 fresh_limit (Below bound) = Below nesting_bound
+
+-- the limit within which whole texts are read
+abbrev pub the_limit : Limit
+the_limit = Below nesting_bound

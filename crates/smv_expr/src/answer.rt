@@ -109,15 +109,19 @@ pub fn whole_expr(alloc: Global, tokens: &mut Cursor<'_>) -> Result<Expr, ReadEr
 ///   token is a word or a mark of SMV that is left out here.
 /// - `WideNumber`: a numeral over 2,147,483,647 that an expression may have there.
 /// - `TooNested`: before the token more than 1,000 of `(`, `{`, `case`, `!`, `->` and `-` that negate are open, or with it an
-///   expression ends whose tree is higher than 1,000. No expression within the limits begins with the tokens up to this one,
-///   and each beginning of the text that ends before it, and is an expression, is within them.
+///   expression ends whose tree is higher than 1,000. An expression with numerals within the limit begins with the tokens up
+///   to this one, but none within the limits of nesting does. Each beginning of the text that ends before it, and is an
+///   expression, is within them.
 /// - `NoMemory`: memory ran out.
+///
+/// Each expression that is answered is printable: its names are identifiers, and its numbers are within the limit.
 pub fn read_expr(alloc: Global, file: u32, bytes: &[u8]) -> Result<Expr, Fault>
     requires { length bytes.now < 2 ^ 32 }
     ensures answer { ExprAnswer file bytes.now result }
     ensures complete { (a : Expr) → ReadsExpr file bytes.now a → spec.IsAnswered a result }
     ensures round_trip { (e : Expr) → Printable e → bytes.now ≡ printed_expr e
         → IsRoundTrip file bytes.now e result }
+    ensures printable { IfOk result Printable }
 {
     let mut tokens = Cursor::new(file, bytes);
     let found = whole_expr(alloc, &mut tokens);

@@ -8,6 +8,7 @@ pub mod expr;
 pub mod kind;
 mod lexeme;
 pub mod measured;
+pub mod names;
 mod numeral;
 pub mod operand;
 

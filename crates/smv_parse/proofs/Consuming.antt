@@ -7,9 +7,6 @@ use Rattle.smv_parse.specs.Readers.{the_limit}
 use Rattle.smv_parse.proofs.ProgramRules as rules
 use Rattle.smv_parse.proofs.ProgramLimited as limited
 
-pub next_name_consumes : Consumes r.read_next_name
-next_name_consumes = consumes rules.next_name_rule rules.starts_next_name
-
 pub next_sign_consumes : Consumes (r.read_next_sign the_limit)
 next_sign_consumes = consumes_too limited.next_sign_obeys (consumes (rules.next_sign_rule true) (rules.starts_next_sign true))
 

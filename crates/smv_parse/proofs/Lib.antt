@@ -8,3 +8,4 @@ pub mod Marks
 pub mod ModelPieces
 pub mod ModelsRoundTrip
 pub mod RoundTripAnswers
+pub mod ReadModels

@@ -26,6 +26,7 @@ use Rattle.smv_expr.proofs.CutMarks.{open_paren, close_paren, open_brace, close_
 use Rattle.smv_expr.proofs.Pieces.{sign_read, up_to_read}
 use Rattle.smv_expr.proofs.RoundTrip.{expr_spells}
 use Rattle.smv_parse.specs.declared.names.LeftSide.{LeftSide}
+use Rattle.smv_expr.specs.Names as lists
 use Rattle.smv_parse.specs.Grammar as g
 use Rattle.smv_parse.specs.RoundTrip.{is_printable_type, is_printable_declared, is_printable_declaration, is_printable_assignment, is_printable_definition}
 use Rattle.smv_parse.proofs.Marks.{becomes, line_end, indented}
@@ -70,8 +71,8 @@ expr_texts : (xs : List Expr) → map printed_expr xs ≡ texts (map piece_of xs
 expr_texts [] = refl
 expr_texts (x ∷ xs) = ap (λ ys. printed_expr x ∷ ys) (expr_texts xs)
 
-pub names_spell : (n : Bytes) (names : List Bytes) → all_are (map is_name (n ∷ names)) ≡ true → Spells (λ m. g.names) (λ v. v ≡ n ∷ names) ends (listed (n ∷ names))
-names_spell n names h = spelled_mapped g.names_of (λ v same. same_items (n ∷ names) (v.0.0 ∷ v.1) same)
+pub names_spell : (n : Bytes) (names : List Bytes) → all_are (map is_name (n ∷ names)) ≡ true → Spells (λ m. lists.names) (λ v. v ≡ n ∷ names) ends (listed (n ∷ names))
+names_spell n names h = spelled_mapped lists.names_of (λ v same. same_items (n ∷ names) (v.0.0 ∷ v.1) same)
     (retext (ap (λ t. n ++ t) (commas_row (λ x. x) names ∙ ap (each_after (codes ", ")) (map_id names)))
     (list_spells (λ v. v.0) (λ x. x) (λ x. x) is_name (λ x. x) name_spells n names h))
 

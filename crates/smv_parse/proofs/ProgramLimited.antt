@@ -1,19 +1,18 @@
 -- Each reader of a part of a model, within limits and without.
-use Rattle.std.proofs.Common.{◌≡◌, Bool, true, ◌&&◌, List, [], ◌∷◌, ◌++◌, Some, None, refl, sym, ◌∙◌, ap}
+use Rattle.std.proofs.Common.{◌≡◌, Bool, true, ◌&&◌, [], ◌∷◌, Some, None, refl, sym}
 use Rattle.std.specs.List.{list_all}
 use Rattle.smv_ast.specs.declared.syntax.SmvType.TheVariants as type
 use Rattle.smv_ast.specs.declared.program.Declared.TheVariants as declared
 use Rattle.smv_ast.specs.declared.program.Left.TheVariants as left
 use Rattle.smv_expr.specs.declared.kind.Kind.{Kind}
 use Rattle.smv_expr.specs.declared.kind.Kind.TheVariants as k
-use Rattle.smv_expr.specs.Language.{of_kind, span_of, name_of}
-use Rattle.smv_expr.specs.Reading.{Reader, read_many, read_name, read_word}
 use Rattle.smv_expr.specs.Limits.Limit.{AnyHeight}
 use Rattle.smv_expr.specs.ExprReaders.{first_expr}
 use Rattle.smv_expr.specs.ExprAnswer.{is_low}
-use Rattle.smv_expr.proofs.Limited.{Obeys, always_fits, all_pass, leaf_obeys, nothing_obeys, mapped_obeys, either_obeys, many_obeys, gather_obeys, gather_from_obeys, retested, and_true, and_and}
+use Rattle.smv_expr.proofs.Limited.{Obeys, always_fits, nothing_obeys, mapped_obeys, either_obeys, gather_obeys, gather_from_obeys, and_true}
 use Rattle.smv_expr.proofs.ExprLimited.{word_then, both_then, sign_obeys, up_to_obeys}
 use Rattle.smv_expr.proofs.ExprAnswering.{limited_obeys}
+use Rattle.smv_expr.proofs.NameRules.{all_pushed, list_obeys, free_list, names_obeys, name_obeys, word_obeys}
 use Rattle.smv_parse.specs.declared.sections.Part.{Part}
 use Rattle.smv_parse.specs.declared.sections.Part.TheVariants as part
 use Rattle.smv_parse.specs.declared.sections.Parts.{Parts}
@@ -25,56 +24,21 @@ use Rattle.smv_parse.specs.Readers as r
 use Rattle.smv_parse.specs.Readers.{the_limit}
 use Rattle.smv_parse.proofs.SkipRule.{skip_obeys}
 
--- ---- lists
-
-list_all_passes : {A : Type 0} (test : A → Bool) (items : List A) → list_all test items ≡ all_pass test items
-list_all_passes test [] = refl
-list_all_passes test (a ∷ items) = ap (λ v. test a && v) (list_all_passes test items)
-
-all_pushed : {A : Type 0} (test : A → Bool) (items : List A) (a : A) → list_all test (items ++ a ∷ []) ≡ (list_all test items && test a)
-all_pushed test [] a = and_true (test a)
-all_pushed test (x ∷ items) a = ap (λ v. test x && v) (all_pushed test items a) ∙ and_and (test x) (list_all test items) (test a)
-
-each_fits : {A : Type 0} (items : List A) → true ≡ all_pass always_fits items
-each_fits [] = refl
-each_fits (a ∷ items) = each_fits items
-
-list_obeys : {A : Type 0} {any : Bool} {test : A → Bool} {p' p : Reader A} (set : List Kind) → Obeys any test p' p → Obeys any (list_all test) (read_many set p') (read_many set p)
-list_obeys {test = test} set o = retested (all_pass test) (list_all test) (list_all_passes test) (many_obeys set o)
-
--- a list on which there are no limits
-free_list : {A : Type 0} {any : Bool} {p' p : Reader A} (set : List Kind) → Obeys any always_fits p' p → Obeys any always_fits (read_many set p') (read_many set p)
-free_list set o = retested (all_pass always_fits) always_fits each_fits (many_obeys set o)
-
 -- ---- names
-
-a_name : {any : Bool} → Obeys any always_fits read_name read_name
-a_name = leaf_obeys (of_kind k.Name name_of)
-
-a_word : {any : Bool} (kind : Kind) → Obeys any always_fits (read_word kind) (read_word kind)
-a_word kind = leaf_obeys (of_kind kind span_of)
-
-next_name_obeys : {any : Bool} → Obeys any always_fits r.read_next_name r.read_next_name
-unfolding r.read_next_name
-next_name_obeys = mapped_obeys _ _ always_fits (λ v. refl) (word_then k.Comma a_name)
-
-names_obeys : {any : Bool} → Obeys any always_fits r.read_names r.read_names
-unfolding r.read_names r.read_more_names
-names_obeys = mapped_obeys g.names_of _ always_fits (λ v. refl) (both_then a_name (free_list (k.Comma ∷ []) next_name_obeys))
 
 some_formals_obeys : {any : Bool} → Obeys any always_fits r.read_some_formals r.read_some_formals
 unfolding r.read_some_formals r.read_formals r.read_some_names
-some_formals_obeys = either_obeys (k.OpenParen ∷ []) (mapped_obeys _ _ always_fits (λ v. refl) (word_then k.OpenParen (both_then (either_obeys (k.Name ∷ []) names_obeys (nothing_obeys always_fits [] refl)) (a_word k.CloseParen)))) (nothing_obeys always_fits [] refl)
+some_formals_obeys = either_obeys (k.OpenParen ∷ []) (mapped_obeys _ _ always_fits (λ v. refl) (word_then k.OpenParen (both_then (either_obeys (k.Name ∷ []) names_obeys (nothing_obeys always_fits [] refl)) (word_obeys k.CloseParen)))) (nothing_obeys always_fits [] refl)
 
 pub name_in_parens_obeys : {any : Bool} → Obeys any always_fits r.read_name_in_parens r.read_name_in_parens
 unfolding r.read_name_in_parens
-name_in_parens_obeys = mapped_obeys _ _ always_fits (λ v. refl) (word_then k.OpenParen (both_then a_name (a_word k.CloseParen)))
+name_in_parens_obeys = mapped_obeys _ _ always_fits (λ v. refl) (word_then k.OpenParen (both_then name_obeys (word_obeys k.CloseParen)))
 
 left_side_obeys : {any : Bool} → Obeys any always_fits r.read_left_side r.read_left_side
 unfolding r.read_left_side
 left_side_obeys =
     either_obeys (k.Init ∷ []) (mapped_obeys (g.side_of left.Init) _ always_fits (λ v. refl) (word_then k.Init name_in_parens_obeys)) (
-    either_obeys (k.Next ∷ []) (mapped_obeys (g.side_of left.Next) _ always_fits (λ v. refl) (word_then k.Next name_in_parens_obeys)) (mapped_obeys g.current_side_of _ always_fits (λ v. refl) a_name))
+    either_obeys (k.Next ∷ []) (mapped_obeys (g.side_of left.Next) _ always_fits (λ v. refl) (word_then k.Next name_in_parens_obeys)) (mapped_obeys g.current_side_of _ always_fits (λ v. refl) name_obeys))
 
 -- ---- types
 
@@ -88,12 +52,12 @@ numbers_obeys = mapped_obeys _ _ always_fits (λ v. refl) (both_then (sign_obeys
 
 enumeration_obeys : {any : Bool} → Obeys any always_fits (r.read_enumeration the_limit) (r.read_enumeration (AnyHeight any))
 unfolding r.read_enumeration r.read_values
-enumeration_obeys = mapped_obeys _ _ always_fits (λ v. refl) (word_then k.OpenBrace (both_then (either_obeys r.first_sign numbers_obeys (mapped_obeys type.Symbols _ always_fits (λ v. refl) names_obeys)) (a_word k.CloseBrace)))
+enumeration_obeys = mapped_obeys _ _ always_fits (λ v. refl) (word_then k.OpenBrace (both_then (either_obeys r.first_sign numbers_obeys (mapped_obeys type.Symbols _ always_fits (λ v. refl) names_obeys)) (word_obeys k.CloseBrace)))
 
 type_obeys : {any : Bool} → Obeys any always_fits (r.read_smv_type the_limit) (r.read_smv_type (AnyHeight any))
 unfolding r.read_smv_type r.read_range
 type_obeys =
-    either_obeys (k.Boolean ∷ []) (mapped_obeys _ _ always_fits (λ v. refl) (a_word k.Boolean)) (
+    either_obeys (k.Boolean ∷ []) (mapped_obeys _ _ always_fits (λ v. refl) (word_obeys k.Boolean)) (
     either_obeys (k.OpenBrace ∷ []) enumeration_obeys (mapped_obeys _ _ always_fits (λ v. refl) (both_then (sign_obeys _ true) (up_to_obeys _ true))))
 
 -- ---- what is declared
@@ -109,11 +73,11 @@ exprs_obey = mapped_obeys _ _ (list_all is_low) (λ v. refl) (both_then (limited
 actuals_obey : {any : Bool} → Obeys any (list_all is_low) (r.read_actuals the_limit) (r.read_actuals (AnyHeight any))
 unfolding r.read_actuals r.read_some_exprs
 actuals_obey = mapped_obeys _ _ (list_all is_low) (λ v. sym (and_true (list_all is_low v.1.0)))
-    (word_then k.OpenParen (both_then (either_obeys first_expr exprs_obey (nothing_obeys (list_all is_low) [] refl)) (a_word k.CloseParen)))
+    (word_then k.OpenParen (both_then (either_obeys first_expr exprs_obey (nothing_obeys (list_all is_low) [] refl)) (word_obeys k.CloseParen)))
 
 instance_obeys : {any : Bool} → Obeys any low_declared (r.read_instance the_limit) (r.read_instance (AnyHeight any))
 unfolding r.read_instance r.read_some_actuals
-instance_obeys = mapped_obeys g.instance_of _ low_declared (λ v. refl) (both_then a_name (either_obeys (k.OpenParen ∷ []) actuals_obey (nothing_obeys (list_all is_low) [] refl)))
+instance_obeys = mapped_obeys g.instance_of _ low_declared (λ v. refl) (both_then name_obeys (either_obeys (k.OpenParen ∷ []) actuals_obey (nothing_obeys (list_all is_low) [] refl)))
 
 declared_obeys : {any : Bool} → Obeys any low_declared (r.read_declared the_limit) (r.read_declared (AnyHeight any))
 unfolding r.read_declared
@@ -123,20 +87,20 @@ declared_obeys = either_obeys r.first_type (mapped_obeys declared.Plain always_f
 
 pub declaration_obeys : {any : Bool} → Obeys any low_declaration (r.read_declaration the_limit) (r.read_declaration (AnyHeight any))
 unfolding r.read_declaration
-declaration_obeys = mapped_obeys g.declaration_of _ low_declaration (λ v. sym (and_true (low_declared v.1.1.0))) (both_then a_name (word_then k.Colon (both_then declared_obeys (a_word k.Semicolon))))
+declaration_obeys = mapped_obeys g.declaration_of _ low_declaration (λ v. sym (and_true (low_declared v.1.1.0))) (both_then name_obeys (word_then k.Colon (both_then declared_obeys (word_obeys k.Semicolon))))
 
 pub assignment_obeys : {any : Bool} → Obeys any low_assignment (r.read_assignment the_limit) (r.read_assignment (AnyHeight any))
 unfolding r.read_assignment
-assignment_obeys = mapped_obeys g.assignment_of _ low_assignment (λ v. sym (and_true (is_low v.1.1.0))) (both_then left_side_obeys (word_then k.Becomes (both_then (limited_obeys _) (a_word k.Semicolon))))
+assignment_obeys = mapped_obeys g.assignment_of _ low_assignment (λ v. sym (and_true (is_low v.1.1.0))) (both_then left_side_obeys (word_then k.Becomes (both_then (limited_obeys _) (word_obeys k.Semicolon))))
 
 pub definition_obeys : {any : Bool} → Obeys any low_definition (r.read_definition the_limit) (r.read_definition (AnyHeight any))
 unfolding r.read_definition
-definition_obeys = mapped_obeys g.definition_of _ low_definition (λ v. sym (and_true (is_low v.1.1.0))) (both_then a_name (word_then k.Becomes (both_then (limited_obeys _) (a_word k.Semicolon))))
+definition_obeys = mapped_obeys g.definition_of _ low_definition (λ v. sym (and_true (is_low v.1.1.0))) (both_then name_obeys (word_then k.Becomes (both_then (limited_obeys _) (word_obeys k.Semicolon))))
 
 constraint_obeys : {any : Bool} (kind : Kind) → Obeys any (λ p. is_low p.1) (r.read_constraint the_limit kind) (r.read_constraint (AnyHeight any) kind)
 unfolding r.read_constraint
 constraint_obeys kind = mapped_obeys _ _ (λ p. is_low p.1) (λ v. sym (and_true (is_low v.1.0)))
-    (word_then kind (both_then (limited_obeys _) (either_obeys (k.Semicolon ∷ []) (mapped_obeys Some _ always_fits (λ v. refl) (a_word k.Semicolon)) (nothing_obeys always_fits None refl))))
+    (word_then kind (both_then (limited_obeys _) (either_obeys (k.Semicolon ∷ []) (mapped_obeys Some _ always_fits (λ v. refl) (word_obeys k.Semicolon)) (nothing_obeys always_fits None refl))))
 
 -- ---- sections and modules
 
@@ -160,11 +124,11 @@ low_parts parts = list_all low_section parts.sections
 skip_word_obeys : {any : Bool} → Obeys any always_fits r.read_skip_word r.read_skip_word
 unfolding r.read_skip_word
 skip_word_obeys =
-    either_obeys (k.Spec ∷ []) (mapped_obeys _ _ always_fits (λ v. refl) (a_word k.Spec)) (
-    either_obeys (k.CtlSpec ∷ []) (mapped_obeys _ _ always_fits (λ v. refl) (a_word k.CtlSpec)) (
-    either_obeys (k.LtlSpec ∷ []) (mapped_obeys _ _ always_fits (λ v. refl) (a_word k.LtlSpec)) (
-    either_obeys (k.Fairness ∷ []) (mapped_obeys _ _ always_fits (λ v. refl) (a_word k.Fairness)) (
-    either_obeys (k.Justice ∷ []) (mapped_obeys _ _ always_fits (λ v. refl) (a_word k.Justice)) (mapped_obeys _ _ always_fits (λ v. refl) (a_word k.Compassion))))))
+    either_obeys (k.Spec ∷ []) (mapped_obeys _ _ always_fits (λ v. refl) (word_obeys k.Spec)) (
+    either_obeys (k.CtlSpec ∷ []) (mapped_obeys _ _ always_fits (λ v. refl) (word_obeys k.CtlSpec)) (
+    either_obeys (k.LtlSpec ∷ []) (mapped_obeys _ _ always_fits (λ v. refl) (word_obeys k.LtlSpec)) (
+    either_obeys (k.Fairness ∷ []) (mapped_obeys _ _ always_fits (λ v. refl) (word_obeys k.Fairness)) (
+    either_obeys (k.Justice ∷ []) (mapped_obeys _ _ always_fits (λ v. refl) (word_obeys k.Justice)) (mapped_obeys _ _ always_fits (λ v. refl) (word_obeys k.Compassion))))))
 
 pub part_obeys : {any : Bool} → Obeys any low_part (r.read_part the_limit) (r.read_part (AnyHeight any))
 unfolding r.read_part r.read_skipped
@@ -184,7 +148,7 @@ low_module_reading m = low_module m.«module»
 
 pub module_obeys : {any : Bool} → Obeys any low_module_reading (r.read_module the_limit) (r.read_module (AnyHeight any))
 unfolding r.read_module
-module_obeys = mapped_obeys g.module_of _ low_module_reading (λ v. refl) (word_then k.Module (both_then a_name (both_then some_formals_obeys parts_obey)))
+module_obeys = mapped_obeys g.module_of _ low_module_reading (λ v. refl) (word_then k.Module (both_then name_obeys (both_then some_formals_obeys parts_obey)))
 
 -- ---- models
 

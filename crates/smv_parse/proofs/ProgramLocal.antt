@@ -11,6 +11,7 @@ use Rattle.smv_expr.specs.Reading.Outcome.{Read}
 use Rattle.smv_expr.specs.ExprReaders.{first_expr}
 use Rattle.smv_expr.proofs.ExprAnswering.{limited_local}
 use Rattle.smv_expr.proofs.ExprLocal.{word_local, name_local, word_then_local, sign_local, up_to_local}
+use Rattle.smv_expr.proofs.NameRules.{names_local}
 use Rattle.smv_expr.proofs.Local.{Local, nothing_local, then_local, mapped_local, both_local, either_local, many_local, fold_local}
 use Rattle.smv_parse.specs.declared.sections.Part.TheVariants as part
 use Rattle.smv_parse.specs.Grammar as g
@@ -43,10 +44,6 @@ skip_word_local =
     either_local (k.Justice ∷ []) (mapped_local _ (word_local k.Justice)) (mapped_local _ (word_local k.Compassion))))))
 
 -- ---- names
-
-names_local : Local r.read_names
-unfolding r.read_names r.read_more_names r.read_next_name
-names_local = mapped_local _ (both_local name_local (many_local (k.Comma ∷ []) c.next_name_consumes (mapped_local _ (word_then_local k.Comma name_local))))
 
 some_formals_local : Local r.read_some_formals
 unfolding r.read_some_formals r.read_formals r.read_some_names

@@ -19,6 +19,7 @@ use Rattle.smv_expr.specs.ExprGrammar.{sign, expr}
 use Rattle.smv_expr.specs.ExprReaders.{first_expr}
 use Rattle.smv_expr.proofs.Rules.{Rule, Starts}
 use Rattle.smv_expr.proofs.Words.{always, starts_word, starts_name, starts_digits, starts_dep, starts_mapped, starts_either, starts_more, leaves_all, leaves_start, leaves_nothing, leaves_mapped, leaves_many, leaves_opt, tok, tok_name, none, seq, after, before, map, alt, maybe, collect, gather, gather_from}
+use Rattle.smv_expr.proofs.NameRules.{names_rule, starts_names}
 use Rattle.smv_expr.proofs.ExprRules.{follow_expr, expr_rules, starts_expr, sign_rule, up_to_rule}
 use Rattle.smv_parse.specs.declared.sections.Part.TheVariants as part
 use Rattle.smv_parse.specs.Grammar as g
@@ -27,9 +28,6 @@ use Rattle.smv_parse.specs.Readers as r
 use Rattle.smv_parse.proofs.SkipRule.{skipped_kinds, skip_rule}
 
 -- ---- with what each part goes on
-
-abbrev follow_names : List Kind
-follow_names = k.Comma ∷ []
 
 abbrev follow_section : List Kind
 follow_section = k.Semicolon ∷ k.Name ∷ k.Init ∷ k.Next ∷ follow_expr
@@ -41,22 +39,6 @@ abbrev pub follow_program : List Kind
 follow_program = k.Module ∷ follow_parts
 
 -- ---- the rules. Expressions are read with as many open constructs as models may have.
-
-pub starts_next_name : Starts (k.Comma ∷ []) (λ m. g.next_name)
-unfolding same_kind
-starts_next_name = starts_mapped _ (starts_dep _ (starts_word k.Comma _ refl))
-
-pub next_name_rule : Rule nesting_bound (λ m. g.next_name) (always []) r.read_next_name
-unfolding r.read_next_name
-next_name_rule = map _ (after k.Comma tok_name)
-
-names_rule : Rule nesting_bound (λ m. g.names) (always follow_names) r.read_names
-unfolding r.read_names r.read_more_names same_kind
-names_rule = map _ (seq tok_name (collect (k.Comma ∷ []) follow_names next_name_rule starts_next_name refl refl refl) (leaves_all _ (always follow_names)))
-
-starts_names : Starts (k.Name ∷ []) (λ m. g.names)
-unfolding same_kind
-starts_names = starts_mapped _ (starts_dep _ (starts_name _ refl))
 
 formals_rule : Rule nesting_bound (λ m. g.formals) (always []) r.read_formals
 unfolding r.read_formals r.read_some_names same_kind

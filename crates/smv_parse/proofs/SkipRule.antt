@@ -84,7 +84,7 @@ only_way u v (t ∷ f) r (t' ∷ g) y e h i z w =
 pub skip_rule : {limit : ℕ} → Rule limit (λ m. skipped_text) (always skipped_kinds) read_skipped_text
 unfolding read_skipped_text
 skip_rule = record {
-  lang = record { up = λ m n u ts h. h; depth = 0; value = tt {0}; text = []; reads = tt {0} };
+  lang = record { up = λ m n u ts h. h; depth = 0; shallow = omega arith; value = tt {0}; text = []; reads = tt {0} };
   good = λ ts. record {
     prefix = text_before_end ts;
     split = split_prefix ts;

@@ -19,6 +19,7 @@ use Rattle.smv_expr.specs.declared.kind.Kind.{Kind}
 use Rattle.smv_expr.specs.declared.kind.Kind.TheVariants as k
 use Rattle.smv_expr.specs.Lexicon.{Bytes}
 use Rattle.smv_expr.specs.Language.{Lang, Tokens, word, name, both, many, opt, either, mapped, nothing, has}
+use Rattle.smv_expr.specs.Names.{names}
 use Rattle.smv_expr.specs.ExprGrammar.{sign, up_to, expr}
 use Rattle.smv_parse.specs.declared.names.LeftSide.{LeftSide}
 use Rattle.smv_parse.specs.declared.sections.Part.{Part}
@@ -28,18 +29,6 @@ use Rattle.smv_parse.specs.declared.program.ModuleReading.{ModuleReading}
 use Rattle.smv_parse.specs.declared.program.Reading.{Reading}
 
 -- ---- lists
-
--- , id
-abbrev pub next_name : Lang Bytes
-next_name = mapped (λ p. p.1.0) (both (word k.Comma) name)
-
--- the names of a list
-abbrev pub names_of : (Bytes × Span) × List Bytes → List Bytes
-names_of p = p.0.0 ∷ p.1
-
--- id { , id }
-abbrev pub names : Lang (List Bytes)
-names = mapped names_of (both name (many next_name))
 
 -- ( [ id { , id } ] )
 abbrev pub formals : Lang (List Bytes)

@@ -19,16 +19,18 @@ use Rattle.smv_expr.specs.Lexicon.{Bytes}
 use Rattle.smv_expr.specs.Language.{Tokens, has, number_kinds}
 use Rattle.smv_expr.specs.Reading.{Reader, and_then, read_word, read_name, read_both, read_mapped, read_either, read_nothing, read_opt, read_many, read_fold}
 use Rattle.smv_expr.specs.Reading.Outcome.{Read}
-use Rattle.smv_expr.specs.ExprReaders.{first_expr, read_sign, read_up_to, read_expr}
-use Rattle.smv_expr.specs.Limits.{Limit, any_number, nesting_bound}
-use Rattle.smv_expr.specs.Limits.Limit.{Below}
+use Rattle.smv_expr.specs.Names.{read_names}
+use Rattle.smv_expr.specs.ExprReaders.{first_expr, read_sign, read_up_to}
+use Rattle.smv_expr.specs.ExprReaders as exprs
+use Rattle.smv_expr.specs.Limits.{Limit, any_number}
+use Rattle.smv_expr.specs.Limits as limits
 use Rattle.smv_parse.specs.declared.names.LeftSide.{LeftSide}
 use Rattle.smv_parse.specs.declared.sections.Part.{Part}
 use Rattle.smv_parse.specs.declared.sections.Part.TheVariants as part
 use Rattle.smv_parse.specs.declared.sections.Parts.{Parts}
 use Rattle.smv_parse.specs.declared.program.ModuleReading.{ModuleReading}
 use Rattle.smv_parse.specs.declared.program.Reading.{Reading}
-use Rattle.smv_parse.specs.Grammar.{names_of, side_of, current_side_of, skip_ends, skipped_as, instance_of, declaration_of, assignment_of, definition_of, no_parts, with_part, module_of, single_module, with_module}
+use Rattle.smv_parse.specs.Grammar.{side_of, current_side_of, skip_ends, skipped_as, instance_of, declaration_of, assignment_of, definition_of, no_parts, with_part, module_of, single_module, with_module}
 
 -- ---- what the parts begin with
 
@@ -59,18 +61,6 @@ first_part =
     ∷ k.Spec ∷ k.CtlSpec ∷ k.LtlSpec ∷ k.Fairness ∷ k.Justice ∷ k.Compassion ∷ []
 
 -- ---- names and left sides
-
--- , id
-unfoldable pub read_next_name : Reader Bytes
-read_next_name = read_mapped (λ p. p.1.0) (read_both (read_word k.Comma) read_name)
-
--- { , id }
-unfoldable pub read_more_names : Reader (List Bytes)
-read_more_names = read_many (k.Comma ∷ []) read_next_name
-
--- id { , id }
-unfoldable pub read_names : Reader (List Bytes)
-read_names = read_mapped names_of (read_both read_name read_more_names)
 
 -- [ id { , id } ]
 unfoldable pub read_some_names : Reader (List Bytes)
@@ -124,9 +114,9 @@ read_skipped = read_mapped (λ p. p.0) (read_both read_skip_word read_skipped_te
 
 -- ---- within a limit, or without
 
--- the limit within which models are read
+-- the limit within which models are read: that of all texts
 abbrev pub the_limit : Limit
-the_limit = Below nesting_bound
+the_limit = limits.the_limit
 
 module _ (limit : Limit) where
   -- , sign
@@ -165,7 +155,7 @@ module _ (limit : Limit) where
 
   -- a whole expression
   abbrev pub read_whole_expr : Reader Expr
-  read_whole_expr = read_expr nesting_bound limit
+  read_whole_expr = exprs.read_whole_expr limit
 
   -- , expr
   unfoldable pub read_next_expr : Reader Expr

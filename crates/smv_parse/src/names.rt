@@ -1,14 +1,15 @@
-//! Lists of names, and the left sides of assignments.
+//! The formals of modules, and the left sides of assignments.
 
-ghost use Rattle.std.specs.Prelude.{◌≡◌, ◌∷◌, IfOk};
+ghost use Rattle.std.specs.Prelude.{◌≡◌};
 ghost use Rattle.smv_expr.specs.Language.{begins};
 ghost use Rattle.smv_expr.specs.Reading.{Gives};
 ghost use Rattle.smv_parse.specs.Readers as spec;
 
-use smv_ast::{Left, List, NoMemory, Span, Text};
+use smv_ast::{Left, List, Span, Text};
 use smv_expr::cursor::Cursor;
 use smv_expr::error::ReadError;
 use smv_expr::kind::Kind;
+use smv_expr::names::names;
 use std::alloc::Global;
 
 /// The left side of an assignment: `init(name)`, `next(name)` or `name`. Its span is that of its first word.
@@ -17,46 +18,6 @@ pub struct LeftSide {
     pub left: Left,
     pub name: Text,
     pub at: Span,
-}
-
-/// A comma, and the name after it.
-#[tactic(auto, unfolding(crate::specs::Readers::read_next_name))]
-fn next_name(alloc: Global, tokens: &mut Cursor<'_>) -> Result<Text, ReadError>
-    ensures { Gives (spec.read_next_name tokens.old) result tokens.new }
-{
-    tokens.expect(Kind::Comma)?;
-    let (name, _) = tokens.name(alloc)?;
-    Ok(name)
-}
-
-fn more_names(alloc: Global, tokens: &mut Cursor<'_>) -> Result<List<Text>, ReadError>
-    ensures { Gives (spec.read_more_names tokens.old) result tokens.new }
-{
-    let mut found = List::new(alloc);
-    'rounds: while tokens.sees(Kind::Comma) {
-        let one = next_name(alloc, tokens)?;
-        found.push(one)?;
-    }
-    Ok(found)
-}
-
-fn with_first(alloc: Global, first: Text, more: List<Text>) -> Result<List<Text>, NoMemory>
-    ensures { IfOk result (λ all. all ≡ first ∷ more) }
-{
-    let mut all = List::new(alloc);
-    all.push(first)?;
-    all.append(more)?;
-    Ok(all)
-}
-
-/// One name or more, with commas between them.
-#[tactic(auto, unfolding(crate::specs::Readers::read_names))]
-pub fn names(alloc: Global, tokens: &mut Cursor<'_>) -> Result<List<Text>, ReadError>
-    ensures { Gives (spec.read_names tokens.old) result tokens.new }
-{
-    let (first, _) = tokens.name(alloc)?;
-    let more = more_names(alloc, tokens)?;
-    Ok(with_first(alloc, first, more)?)
 }
 
 #[tactic(auto, unfolding(crate::specs::Readers::read_some_names))]

@@ -119,18 +119,20 @@ fn program(alloc: Global, tokens: &mut Cursor<'_>) -> Result<Reading, ReadError>
 ///   is a word or a mark of SMV that is left out here.
 /// - `WideNumber`: a numeral over 2,147,483,647 that a model may have there.
 /// - `TooNested`: before the token more than 1,000 constructs of an expression are open, or with it an expression ends whose
-///   tree is higher than 1,000. No model within the limits begins with the tokens up to this one, and each beginning of the
-///   text that ends before it, and is a model, is within them.
+///   tree is higher than 1,000. A model with numerals within the limit begins with the tokens up to this one, but none within
+///   the limits of nesting does. Each beginning of the text that ends before it, and is a model, is within them.
 /// - `NoMemory`: memory ran out.
 ///
 /// Where the bytes are the canonical text of a printable model, the same model is answered, ignoring spans, or TooNested
 /// or NoMemory.
+/// Each model that is answered is printable: its names are identifiers, which have no dot, and its numbers are within the limit.
 pub fn read_program(alloc: Global, file: u32, bytes: &[u8]) -> Result<Reading, Fault>
     requires { length bytes.now < 2 ^ 32 }
     ensures answer { ProgramAnswer file bytes.now result }
     ensures complete { (r : Reading) → Reads file bytes.now r → IsAnswered r result }
     ensures round_trip { (p : Program) → PrintableProgram p → bytes.now ≡ printed_program p
         → IsProgramRoundTrip file bytes.now p result }
+    ensures printable { IfOk result (λ r. PrintableProgram r.program) }
 {
     let mut tokens = Cursor::new(file, bytes);
     let found = program(alloc, &mut tokens);

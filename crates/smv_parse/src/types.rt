@@ -6,11 +6,11 @@ ghost use Rattle.smv_expr.specs.Reading.{Gives};
 ghost use Rattle.smv_parse.specs.Readers as spec;
 ghost use Rattle.smv_parse.specs.Readers.{the_limit};
 
-use crate::names::names;
 use smv_ast::{List, NoMemory, SmvType};
 use smv_expr::cursor::Cursor;
 use smv_expr::error::ReadError;
 use smv_expr::kind::Kind;
+use smv_expr::names::names;
 use smv_expr::operand::{sign, up_to};
 use std::alloc::Global;
 

@@ -5,6 +5,7 @@ use Rattle.smv_expr.specs.Reading.{Gives}
 use Rattle.smv_expr.specs.ExprAnswer.{limited_expr}
 use Rattle.smv_expr.proofs.Answering.{text_answered}
 use Rattle.smv_expr.proofs.ExprAnswering.{answered, complete}
+use Rattle.smv_expr.proofs.ReadTrees.{answer_printable}
 use Rattle.smv_expr.proofs.RoundTripAnswers.{answers_round_trip}
 use Rattle.smv_expr.proofs.answer.read_expr.Goals as goal
 
@@ -19,3 +20,6 @@ returns-clause-complete c a reads = text_answered c.args.file c.args.bytes.now (
 
 pub returns-clause-round_trip : goal.returns-clause-round_trip
 returns-clause-round_trip c e printable same = answers_round_trip c.args.file c.args.bytes.now e c.answer.result printable same (returns-clause-answer c)
+
+pub returns-clause-printable : goal.returns-clause-printable
+returns-clause-printable c = answer_printable c.args.file c.args.bytes.now c.answer.result (returns-clause-answer c)

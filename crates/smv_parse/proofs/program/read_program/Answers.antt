@@ -5,6 +5,7 @@ use Rattle.smv_expr.specs.Reading.{Gives}
 use Rattle.smv_parse.specs.Answer.{limited_program}
 use Rattle.smv_expr.proofs.Answering.{text_answered}
 use Rattle.smv_parse.proofs.ProgramAnswering.{answered, complete}
+use Rattle.smv_parse.proofs.ReadModels.{answer_printable}
 use Rattle.smv_parse.proofs.RoundTripAnswers.{answers_round_trip}
 use Rattle.smv_parse.proofs.program.read_program.Goals as goal
 
@@ -19,3 +20,6 @@ returns-clause-complete c r reads = text_answered c.args.file c.args.bytes.now (
 
 pub returns-clause-round_trip : goal.returns-clause-round_trip
 returns-clause-round_trip c p printable same = answers_round_trip c.args.file c.args.bytes.now p c.answer.result printable same (returns-clause-answer c)
+
+pub returns-clause-printable : goal.returns-clause-printable
+returns-clause-printable c = answer_printable c.args.file c.args.bytes.now c.answer.result (returns-clause-answer c)

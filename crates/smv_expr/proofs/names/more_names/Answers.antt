@@ -2,10 +2,10 @@ use Rattle.std.proofs.Common.{sym, ◌∙◌, [], ◌∷◌, arith, rules}
 use Rattle.std.proofs.lemmas.Grind.{common_steps}
 use Rattle.smv_expr.specs.declared.kind.Kind.TheVariants as k
 use Rattle.smv_expr.specs.Reading.{pushed}
-use Rattle.smv_parse.specs.Readers.{read_next_name, read_more_names}
+use Rattle.smv_expr.specs.Names.{read_next_name, read_more_names}
 use Rattle.smv_expr.proofs.Rounds.{one_round, rounds_end}
-use Rattle.smv_parse.proofs.Consuming.{next_name_consumes}
-use Rattle.smv_parse.proofs.names.more_names.Goals as goal
+use Rattle.smv_expr.proofs.NameRules.{next_name_consumes}
+use Rattle.smv_expr.proofs.names.more_names.Goals as goal
 
 pub rounds-init : goal.rounds-init
 unfolding read_more_names

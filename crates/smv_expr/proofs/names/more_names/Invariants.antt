@@ -1,8 +1,8 @@
 use Rattle.std.proofs.Common.{◌≡◌, [], ◌∷◌, length}
 use Rattle.smv_expr.specs.declared.kind.Kind.TheVariants as k
 use Rattle.smv_expr.specs.Reading.{read_fold, pushed}
-use Rattle.smv_parse.specs.Readers.{read_next_name, read_more_names}
-use Rattle.smv_parse.proofs.names.more_names.Given as goal
+use Rattle.smv_expr.specs.Names.{read_next_name, read_more_names}
+use Rattle.smv_expr.proofs.names.more_names.Given as goal
 
 abbrev pub invariant-rounds : goal.invariant-rounds
 invariant-rounds l = read_more_names l.fn.tokens ≡ read_fold (k.Comma ∷ []) read_next_name pushed l.found l.tokens
