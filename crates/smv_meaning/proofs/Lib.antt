@@ -15,6 +15,8 @@ pub mod ItemIndexLemmas
 pub mod SectionLemmas
 pub mod RunLemmas
 pub mod RunLaw
+pub mod BindingLemmas
+pub mod StateLemmas
 mod Examples
 pub mod MemberLemmas
 pub mod ItemLemmas

@@ -3,7 +3,7 @@
 ghost use Rattle.std.specs.Prelude.{◌≡◌, IfOk, List, ℕ, Some, None, slice_get};
 ghost use Rattle.fixpoint.specs.Fixpoints.{entry};
 ghost use Rattle.smv_meaning.specs.Slots as slots;
-ghost use Rattle.smv_meaning.specs.Runs.{state_of, written_value};
+ghost use Rattle.smv_meaning.specs.Runs.{written_state, written_value};
 ghost use Rattle.smv_meaning.specs.Valuation as valuation;
 
 use crate::aliases::resolve;
@@ -65,7 +65,7 @@ fn name_text(
 }
 
 /// The value that a written state has for a variable.
-pub fn variable_value(
+fn variable_value(
     alloc: Global,
     context: &RunContext,
     written: &RunState,
@@ -73,7 +73,7 @@ pub fn variable_value(
     name: &str,
 ) -> Result<Option<Value>, NoMemory>
     ensures { IfOk result (λ v. v
-        ≡ valuation.variable_at context.now.table.now (state_of written.now)
+        ≡ valuation.variable_at context.now.table.now (written_state written.now)
         (record { instance = row; name = name.now })) }
 {
     match name_text(alloc, context, row, name)? {
@@ -111,7 +111,7 @@ impl<'t> Reader for RowReader<'t> {
 }
 
 /// The value that a table has for a slot.
-fn table_value(
+pub fn table_value(
     alloc: Global,
     solution: &[Option<Value>],
     slot: usize,
@@ -175,15 +175,15 @@ fn unknown_in(
 }
 
 impl<'t> Step<Value> for ValuationStep<'t> {
-    ghost use Rattle.smv_meaning.specs.Runs.{state_of};
+    ghost use Rattle.smv_meaning.specs.Runs.{written_state};
     ghost use Rattle.smv_meaning.specs.Valuation.{valuation_slots};
     ghost use Rattle.smv_meaning.specs.StepMonotone.{valuation_slots_monotone};
 
     ghost step = { λ me. valuation_slots me.context.now.program.now me.context.now.table.now
-        (state_of me.written.now) };
+        (written_state me.written.now) };
 
     ghost monotone = { λ me. valuation_slots_monotone me.context.now.program.now
-        me.context.now.table.now (state_of me.written.now) };
+        me.context.now.table.now (written_state me.written.now) };
 
     fn step(
         &self,
@@ -236,7 +236,7 @@ pub fn value_of_binding(
     written: &RunState,
 ) -> Result<List<Option<Value>>, NoMemory>
     ensures { IfOk result (λ solution. valuation.IsValuationTable context.now.program.now
-        context.now.table.now (state_of written.now) solution) }
+        context.now.table.now (written_state written.now) solution) }
 {
     let solution = fill(
         alloc,
