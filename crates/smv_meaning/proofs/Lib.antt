@@ -1,5 +1,8 @@
 pub mod FaultLemmas
 pub mod NamesLemmas
+pub mod NameSetLemmas
+pub mod SymbolLemmas
+pub mod WrittenLemmas
 pub mod ScopeLemmas
 pub mod DenotationLemmas
 pub mod InstanceTableLemmas

@@ -19,6 +19,7 @@ use crate::met_items::{View, first_unmet};
 use crate::order::order_of;
 use crate::run::{Run, RunAnswer, RunState};
 use crate::scope::{Scope, scopes_of};
+use crate::symbols::symbols_of;
 use crate::table::{InstanceTable, instance_table};
 use crate::valuation::{RunContext, value_of_binding};
 use crate::value::Value;
@@ -151,11 +152,13 @@ fn run_of_context(
     requires short { length states.now < 2 ^ 32 }
     ensures { IfOk result (λ a. a ≡ check.written_answer program.now states.now) }
 {
+    let symbols = symbols_of(alloc, program)?;
     let context = RunContext {
         program,
         table,
         aliases,
         texts,
+        symbols: &symbols,
     };
     run_in(alloc, &context, states)
 }

@@ -17,6 +17,7 @@ use crate::met_items::{View, is_true_in};
 use crate::order::order_of;
 use crate::run::RunState;
 use crate::scope::{Scope, scopes_of};
+use crate::symbols::symbols_of;
 use crate::table::{InstanceTable, Link, instance_table};
 use crate::valuation::{RunContext, value_of_binding};
 use crate::value::Value;
@@ -132,11 +133,13 @@ fn holds_of_context(
     ensures { IfOk result (λ b. b
         ≡ spec.holds_at program.now instance.now e.now (spec.written_state state.now)) }
 {
+    let symbols = symbols_of(alloc, program)?;
     let context = RunContext {
         program,
         table,
         aliases,
         texts,
+        symbols: &symbols,
     };
     let solution = value_of_binding(alloc, &context, state)?;
     holds_by(alloc, &context, instance, e, state, solution.as_slice())
