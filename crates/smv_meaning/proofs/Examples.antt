@@ -1,13 +1,18 @@
 -- The definitions, evaluated on small examples.
-use Rattle.std.proofs.Common.{◌≡◌, ℕ, [], ◌∷◌, refl, codes, true, false, pos, Some}
+use Rattle.std.proofs.Common.{◌≡◌, ℕ, [], ◌∷◌, refl, codes, true, false, pos, Some, None}
 use Rattle.smv_ast.specs.declared.syntax.Expr.{Expr-F}
 use Rattle.smv_ast.specs.declared.syntax.Choice.{Choice-F}
 use Rattle.smv_ast.specs.declared.syntax.SmvType.TheVariants as type
 use Rattle.smv_ast.specs.declared.syntax.Op.TheVariants as op
+use Rattle.smv_ast.specs.declared.program.Declared.TheVariants.{Plain}
+use Rattle.smv_ast.specs.declared.program.Section.TheVariants as section
+use Rattle.smv_ast.specs.declared.program.Program.{Program}
 use Rattle.smv_ast.specs.IgnoringSpans.{no_span}
 use Rattle.smv_meaning.specs.declared.value.Value.{Value}
 use Rattle.smv_meaning.specs.declared.value.Value.TheVariants.{Boolean, Number}
 use Rattle.smv_meaning.specs.Value.{Name, first_value, all_values}
+use Rattle.smv_meaning.specs.declared.run.RunState.{RunState}
+use Rattle.smv_meaning.specs.Runs.{is_variable, state_of}
 use Rattle.smv_meaning.specs.Denotations.{Environment, Denotation, BranchDenotation, expr_denotation, choice_denotation}
 
 abbrev numeral : ℕ → Denotation
@@ -69,3 +74,22 @@ one_is_true = refl
 
 not_zero : (expr_denotation (Expr-F.Not (numeral 0))).value (each 0) (each 0) ≡ Some (Boolean true)
 not_zero = refl
+
+-- `MODULE main VAR x : boolean;` has the variable `x` alone: a written state describes the first value for `x`, and none for `y`
+abbrev one_variable : Program
+one_variable = record { modules = record { name = codes "main"; formals = []; sections = section.Vars (record { name = codes "x"; what = Plain type.Boolean; at = no_span } ∷ []) ∷ []; at = no_span } ∷ [] }
+
+abbrev written : RunState
+written = record { values = record { path = codes "y"; value = Boolean true } ∷ record { path = codes "x"; value = Boolean true } ∷ record { path = codes "x"; value = Boolean false } ∷ [] }
+
+x_is_variable : is_variable one_variable (codes "x" ∷ []) ≡ true
+x_is_variable = refl
+
+path_is_none : is_variable one_variable (codes "x" ∷ codes "x" ∷ []) ≡ false
+path_is_none = refl
+
+first_written : state_of one_variable written (codes "x" ∷ []) ≡ Some (Boolean true)
+first_written = refl
+
+others_ignored : state_of one_variable written (codes "y" ∷ []) ≡ None
+others_ignored = refl

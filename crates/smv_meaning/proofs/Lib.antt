@@ -1,5 +1,8 @@
 pub mod FaultLemmas
 pub mod NamesLemmas
+pub mod NameSetLemmas
+pub mod SymbolLemmas
+pub mod WrittenLemmas
 pub mod ScopeLemmas
 pub mod DenotationLemmas
 pub mod InstanceTableLemmas
@@ -15,6 +18,8 @@ pub mod ItemIndexLemmas
 pub mod SectionLemmas
 pub mod RunLemmas
 pub mod RunLaw
+pub mod BindingLemmas
+pub mod StateLemmas
 mod Examples
 pub mod MemberLemmas
 pub mod ItemLemmas

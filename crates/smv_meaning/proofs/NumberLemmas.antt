@@ -13,14 +13,14 @@ use Rattle.smv_meaning.specs.declared.table.Row.{Row}
 use Rattle.smv_meaning.specs.declared.table.Slot.{Slot}
 use Rattle.smv_meaning.specs.declared.value.Value.{Value}
 use Rattle.smv_meaning.specs.Value.{Name, and_then}
-use Rattle.fixpoint.specs.Fixpoints.{known, most}
+use Rattle.fixpoint.specs.Fixpoints.{known, most, entry}
 use Rattle.smv_meaning.specs.Paths.{QualifiedName, Binding, Aliases, IsVariable, IsInstance, IsDefine, IsFormal, IsNothing, walked, aliased, alias_of_binding, alias_step, aliases, resolve}
 use Rattle.smv_meaning.specs.Instances.{Entry, Entity, Instance, binding_at, binding_in as renumbered_binding, path_of, entries, module_at}
 use Rattle.smv_meaning.specs.Entries.{first_index, entity_among}
 use Rattle.smv_meaning.specs.Denotations.{Environment, denotation_of}
-use Rattle.smv_meaning.specs.Values.{State, Valuation, symbol_of, value_at_path, environment_by, read_by, value_of_binding, valuation_step, valuation_in, variable_in, environment_in}
+use Rattle.smv_meaning.specs.Values.{State, Valuation, symbol_of, value_at_path, environment_by, read_by, value_of_binding, valuation_step, valuation_in, variable_in, values_in, environment_in}
 use Rattle.smv_meaning.specs.InstanceTable.{entries_at, nth_instance, row_instances, renumbered, InRange, binding_view, IsTableOf}
-use Rattle.smv_meaning.specs.Slots.{slot_of, name_of_slot, binding_in, HasSlots}
+use Rattle.smv_meaning.specs.Slots.{slot_of, name_of_slot, binding_in, by_slot, HasSlots}
 use Rattle.smv_meaning.specs.Valuation.{AreLinked, variable_at, IsValuationTable, row_environment}
 use Rattle.smv_meaning.proofs.InstanceTableLemmas.{get_within, row_at, names_at}
 
@@ -299,3 +299,7 @@ module _ (program : Program) (table : InstanceTable) (right : IsTableOf program 
   row_environment_is s solution r is_of h =
       ap (λ (u : Valuation ℕ). environment_by (binding_in table) (symbol_of program) u r) (fun_ext is_of)
       ∙ environment_same (symbol_of program) (valuation_in (binding_in table) (symbol_of program) (variable_at table s)) (valuation_in (binding_at program) (symbol_of program) (variable_in s)) (valuation_same (symbol_of program) (variable_at table s) (variable_in s) (state_same s)) r h
+
+  -- the value of a name of an instance by a table of slots is its value in the state
+  pub row_value_is : (s : State) (solution : List (Option Value)) (r : ℕ) (name : Name) → IsValuationTable program table s solution → r < n → by_slot table (entry solution) (qualified_at r name) ≡ values_in program s (qualified_at (instance_at r) name)
+  row_value_is s solution r name is_of h = is_of (qualified_at r name) ∙ valuation_same (symbol_of program) (variable_at table s) (variable_in s) (state_same s) r name h

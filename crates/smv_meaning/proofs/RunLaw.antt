@@ -2,6 +2,7 @@
 use Rattle.std.proofs.Common.{◌≡◌, ◌↔◌, ℕ, suc, ◌<◌, Bool, true, false, ◌&&◌, List, [], ◌∷◌, length, map, Option, Some, None, is_none, All, refl, sym, ap, ◌∙◌, arith}
 use Rattle.std.specs.List.{list_all}
 use Rattle.std.specs.Cmp.Derive.{both_true}
+use Rattle.std.proofs.lemmas.List.Elements.{All-cons}
 use Rattle.smv_ast.specs.declared.syntax.Span.{Span}
 use Rattle.smv_ast.specs.declared.program.Program.{Program}
 use Rattle.smv_meaning.specs.declared.run.RunState.{RunState}
@@ -10,7 +11,8 @@ use Rattle.smv_meaning.specs.declared.run.RunAnswer.TheVariants as answer
 use Rattle.smv_meaning.specs.Instances.{Instance, module_at, instances}
 use Rattle.smv_meaning.specs.Items.{Item, items, at_of}
 use Rattle.smv_meaning.specs.Values.{State}
-use Rattle.smv_meaning.specs.Runs.{begins, stays, steps, each_item, meets, unless_met, or_else, first_fault, broken_at, first_broken, answer_from, answer_of, state_of, IsState, GoesOn, IsRun}
+use Rattle.smv_meaning.specs.Runs.{begins, stays, steps, each_item, meets, unless_met, or_else, first_fault, broken_at, first_broken, answer_from, answer_of, state_of, IsState, IsExactState, GoesOn, IsRun}
+use Rattle.smv_meaning.proofs.StateLemmas.{exact_state}
 
 -- ---- tests on lists
 
@@ -93,21 +95,25 @@ module _ (program : Program) where
 
   -- ---- answers
 
-  goes_on : (step : ℕ) (s : State) (states : List State) → All (IsState program) states → (answer_from program step (Some s) states ≡ answer.Run) ↔ GoesOn program s states
+  goes_on : (step : ℕ) (s : State) (states : List State) → All (IsExactState program) states → (answer_from program step (Some s) states ≡ answer.Run) ↔ GoesOn program s states
   goes_on step s [] are = (λ e. tt, λ goes. refl)
   goes_on step s (t ∷ more) are =
       first_passes step (answer_from program (suc step) (Some t) more) (first_broken program (Some s) t) (each_item program (λ instance. stays program instance t)) (each_item program (λ instance. steps program instance s t))
       (goes_right s t) (are 0 t (omega arith)) (goes_on (suc step) t more (λ k d h. are (suc k) d (omega arith)))
 
-  is_run : (s : State) (more : List State) → All (IsState program) (s ∷ more) → (answer_from program 0 None (s ∷ more) ≡ answer.Run) ↔ IsRun program (s ∷ more)
+  is_run : (s : State) (more : List State) → All (IsExactState program) (s ∷ more) → (answer_from program 0 None (s ∷ more) ≡ answer.Run) ↔ IsRun program (s ∷ more)
   is_run s more are =
       first_passes 0 (answer_from program 1 (Some s) more) (first_broken program None s) (each_item program (λ instance. begins program instance s)) (each_item program (λ instance. stays program instance s))
       (begins_right s) (are 0 s (omega arith)) (goes_on 1 s more (λ k d h. are (suc k) d (omega arith)))
 
+  exact_states : (states : List RunState) → All (IsState program) (map (state_of program) states) → All (IsExactState program) (map (state_of program) states)
+  exact_states [] are = λ k d h. absurd (omega arith)
+  exact_states (w ∷ more) are = All-cons (IsExactState program) (state_of program w) (map (state_of program) more) (exact_state program w (are 0 (state_of program w) (omega arith))) (exact_states more (λ k d h. are (suc k) d (omega arith)))
+
   -- the answer on a written run is Run exactly where its states are a run, if there are any and
-  -- each is a state
-  pub run_law : (states : List RunState) (a : RunAnswer) → a ≡ answer_of program states → 0 < length states → All (IsState program) (map state_of states) → (a ≡ answer.Run) ↔ IsRun program (map state_of states)
+  -- each gives each variable a value of its type
+  pub run_law : (states : List RunState) (a : RunAnswer) → a ≡ answer_of program states → 0 < length states → All (IsState program) (map (state_of program) states) → (a ≡ answer.Run) ↔ IsRun program (map (state_of program) states)
   run_law [] a e some are = absurd (omega (arith, some))
-  run_law (s ∷ more) a e some are =
-      let law = is_run (state_of s) (map state_of more) are in
+  run_law (w ∷ more) a e some are =
+      let law = is_run (state_of program w) (map (state_of program) more) (exact_states (w ∷ more) are) in
       (λ run. law.0 (sym e ∙ run), λ run. e ∙ law.1 run)

@@ -11,7 +11,7 @@ use Rattle.std.specs.Option.{option_map}
 use Rattle.smv_ast.specs.declared.syntax.Span.{Span}
 use Rattle.smv_meaning.specs.declared.valuation.RunContext.{RunContext}
 use Rattle.smv_meaning.specs.declared.met_items.View.{View}
-use Rattle.smv_meaning.specs.Runs.{path_text, first_fault, or_else, broken_at, first_broken, answer_from, state_of}
+use Rattle.smv_meaning.specs.Runs.{path_text, first_fault, or_else, broken_at, first_broken, answer_from, written_state}
 use Rattle.smv_meaning.specs.Items.{items}
 use Rattle.smv_meaning.specs.MetItems.{view_state, IsView, true_in}
 use Rattle.smv_meaning.specs.Value.{is_true}
@@ -66,7 +66,7 @@ tables_more context states tables tables' n state solution e l p is_of first k s
 -- ---- the answer
 
 abbrev pub Tail : Program → ℕ → Option View → List RunState → ℕ → RunAnswer
-Tail program step before states k = answer_from program step (option_map view_state before) (map state_of (drop k states))
+Tail program step before states k = answer_from program step (option_map view_state before) (map written_state (drop k states))
 
 pub drop_get : {A : Type 0} (xs : List A) (k : ℕ) (x : A) → slice_get xs k ≡ Some x → drop k xs ≡ x ∷ drop (k + 1) xs
 drop_get [] k x e = cc
@@ -74,22 +74,22 @@ drop_get (y ∷ ys) zero x e = let s : y ≡ x = cc in ap (λ z. z ∷ ys) s
 drop_get (y ∷ ys) (suc k) x e = let s : suc k + 1 ≡ suc (k + 1) = omega arith in rw s (drop_get ys k x e)
 
 next_answer : (program : Program) (step : ℕ) (before : Option View) (states : List RunState) (k : ℕ) (state : RunState) → slice_get states k ≡ Some state →
-    Tail program step before states k ≡ elim (first_broken program (option_map view_state before) (state_of state)) as (λ o. RunAnswer) [ Some at ↦ answer.Breaks step at | None ↦ answer_from program (suc step) (Some (state_of state)) (map state_of (drop (k + 1) states)) ]
-next_answer program step before states k state e = ap (λ xs. answer_from program step (option_map view_state before) (map state_of xs)) (drop_get states k state e)
+    Tail program step before states k ≡ elim (first_broken program (option_map view_state before) (written_state state)) as (λ o. RunAnswer) [ Some at ↦ answer.Breaks step at | None ↦ answer_from program (suc step) (Some (written_state state)) (map written_state (drop (k + 1) states)) ]
+next_answer program step before states k state e = ap (λ xs. answer_from program step (option_map view_state before) (map written_state xs)) (drop_get states k state e)
 
 pub answer_breaks : (program : Program) (step : ℕ) (before : Option View) (now : View) (states : List RunState) (k : ℕ) (at : Span) → slice_get states k ≡ Some now.written.now →
     Some at ≡ first_broken program (option_map view_state before) (view_state now) → answer.Breaks step at ≡ Tail program step before states k
 answer_breaks program step before now states k at e b =
     sym (next_answer program step before states k now.written.now e
-    ∙ ap (λ (o : Option Span). elim o as (λ o. RunAnswer) [ Some at ↦ answer.Breaks step at | None ↦ answer_from program (suc step) (Some (view_state now)) (map state_of (drop (k + 1) states)) ]) (sym b))
+    ∙ ap (λ (o : Option Span). elim o as (λ o. RunAnswer) [ Some at ↦ answer.Breaks step at | None ↦ answer_from program (suc step) (Some (view_state now)) (map written_state (drop (k + 1) states)) ]) (sym b))
 
 pub answer_goes : (program : Program) (step : ℕ) (before : Option View) (now : View) (states : List RunState) (k : ℕ) → slice_get states k ≡ Some now.written.now →
     None ≡ first_broken program (option_map view_state before) (view_state now) → Tail program (step + 1) (Some now) states (k + 1) ≡ Tail program step before states k
 answer_goes program step before now states k e b =
     let s : step + 1 ≡ suc step = omega arith in
-    ap (λ (n : ℕ). answer_from program n (Some (view_state now)) (map state_of (drop (k + 1) states))) s
+    ap (λ (n : ℕ). answer_from program n (Some (view_state now)) (map written_state (drop (k + 1) states))) s
     ∙ sym (next_answer program step before states k now.written.now e
-    ∙ ap (λ (o : Option Span). elim o as (λ o. RunAnswer) [ Some at ↦ answer.Breaks step at | None ↦ answer_from program (suc step) (Some (view_state now)) (map state_of (drop (k + 1) states)) ]) (sym b))
+    ∙ ap (λ (o : Option Span). elim o as (λ o. RunAnswer) [ Some at ↦ answer.Breaks step at | None ↦ answer_from program (suc step) (Some (view_state now)) (map written_state (drop (k + 1) states)) ]) (sym b))
 
 pub is_view : (context : RunContext) (view : View) (states : List RunState) (tables : List (List (Option Value))) (k : ℕ) → AreTables context states tables → slice_get states k ≡ Some view.written.now → slice_get tables k ≡ Some view.solution.now → IsView context view
 is_view context view states tables k are e f =

@@ -7,7 +7,7 @@ use Rattle.smv_meaning.specs.declared.order.Waiting.{Waiting}
 use Rattle.smv_meaning.specs.declared.valuation.RunContext.{RunContext}
 use Rattle.smv_meaning.specs.declared.value.Value.{Value}
 use Rattle.smv_meaning.specs.declared.run.RunState.{RunState}
-use Rattle.smv_meaning.specs.Runs.{state_of}
+use Rattle.smv_meaning.specs.Runs.{written_state}
 use Rattle.smv_meaning.specs.Valuation.{IsValuationTable}
 use Rattle.smv_meaning.specs.Value.{and_then}
 use Rattle.smv_meaning.specs.Paths.{Binding, IsInstance}
@@ -62,4 +62,4 @@ IsContextOfProgram context = IsTableOfProgram context.program.now context.table.
 -- the table is the valuation of the written state
 abbrev pub IsValuationOf : RunContext → RunState → List (Option Value) → Type 0
 IsValuationOf context written solution = IsValuationTable context.program.now context.table.now
-    (state_of written) solution
+    (written_state written) solution

@@ -9,6 +9,9 @@ pub mod Values
 pub mod Mentions
 pub mod Faults
 pub mod Runs
+pub mod NameSets
+pub mod Symbols
+pub mod Written
 pub mod Entries
 pub mod InstanceTable
 pub mod Slots

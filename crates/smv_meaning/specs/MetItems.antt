@@ -1,16 +1,15 @@
 -- The check of items, over the rows of the instance table.
-use Rattle.std.specs.Prelude.{ℕ, Bool, List, [], ◌∷◌, ◌++◌, Option}
+use Rattle.std.specs.Prelude.{ℕ, Bool, List, Option}
 use Rattle.std.specs.Option.{option_map}
 use Rattle.smv_ast.specs.declared.syntax.Expr.{Expr}
 use Rattle.smv_ast.specs.declared.syntax.Span.{Span}
 use Rattle.smv_meaning.specs.declared.met_items.View.{View}
 use Rattle.smv_meaning.specs.declared.valuation.RunContext.{RunContext}
 use Rattle.smv_meaning.specs.Value.{Name}
-use Rattle.smv_meaning.specs.Runs.{state_of, is_true_in, is_assigned, meets, first_fault, unless_met}
+use Rattle.smv_meaning.specs.Runs.{written_state, is_true_in, is_assigned, meets, first_fault, unless_met}
 use Rattle.smv_meaning.specs.Items.{Item, at_of}
 use Rattle.smv_meaning.specs.declared.value.Value.{Value}
-use Rattle.smv_meaning.specs.Instances.{path_of}
-use Rattle.smv_meaning.specs.Values.{State, value_in, allows_in}
+use Rattle.smv_meaning.specs.Values.{State, values_in, value_in, allows_in}
 use Rattle.smv_meaning.specs.Checking.{instance_at, IsValuationOf}
 
 -- the view's table is the valuation of its state
@@ -19,7 +18,7 @@ IsView context view = IsValuationOf context view.written.now view.solution.now
 
 -- the state of a view
 abbrev pub view_state : View → State
-view_state view = state_of view.written.now
+view_state view = written_state view.written.now
 
 -- the value of an expression in an instance, given by number
 abbrev pub value_row : RunContext → ℕ → View → View → Expr → Option Value
@@ -31,17 +30,17 @@ abbrev pub allows_row : RunContext → ℕ → View → View → Expr → Value 
 allows_row context row now after e = allows_in context.program.now (view_state now)
     (view_state after) (instance_at context.table.now row) e
 
--- the value that a state gives a variable of an instance
+-- the value of a name of an instance in a state
 abbrev pub own_row : RunContext → ℕ → View → Name → Option Value
-own_row context row view name = view_state view
-    (path_of (instance_at context.table.now row) ++ name ∷ [])
+own_row context row view name = values_in context.program.now (view_state view)
+    (record { instance = instance_at context.table.now row; name = name })
 
 -- whether an expression is true in an instance
 abbrev pub true_in : RunContext → ℕ → View → View → Expr → Bool
 true_in context row now after e = is_true_in context.program.now (instance_at context.table.now row)
     (view_state now) (view_state after) e
 
--- whether a variable of an instance has a value that its right side allows
+-- whether a name of an instance has a value that its right side allows
 abbrev pub assigned_in : RunContext → ℕ → View → View → View → Name → Expr → Bool
 assigned_in context row own now after name right = is_assigned context.program.now
     (instance_at context.table.now row) (view_state own) (view_state now) (view_state after) name

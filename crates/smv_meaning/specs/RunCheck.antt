@@ -1,5 +1,5 @@
 -- The check of runs, over the rows of the instance table.
-use Rattle.std.specs.Prelude.{◌≡◌, ℕ, Bool, false, List, ◌++◌, Option, Some, None, find, codes, slice_get}
+use Rattle.std.specs.Prelude.{◌≡◌, ℕ, Bool, false, List, ◌++◌, map, Option, Some, None, find, codes, slice_get}
 use Rattle.std.specs.Str.{bytes_eq}
 use Rattle.smv_ast.specs.declared.syntax.Span.{Span}
 use Rattle.smv_ast.specs.declared.program.Section.{Section}
@@ -10,10 +10,11 @@ use Rattle.smv_meaning.specs.declared.table.InstanceTable.{InstanceTable}
 use Rattle.smv_meaning.specs.declared.table.Link.{Link}
 use Rattle.smv_meaning.specs.declared.valuation.RunContext.{RunContext}
 use Rattle.smv_meaning.specs.Instances.{Instance, module_at, instance_text}
-use Rattle.smv_meaning.specs.Runs.{first_fault, holds_at}
+use Rattle.smv_meaning.specs.Runs.{written_state, first_fault, answer_from, holds_at}
 use Rattle.smv_meaning.specs.ItemIndex.{items_at}
 use Rattle.smv_meaning.specs.declared.value.Value.{Value}
 use Rattle.smv_meaning.specs.declared.run.RunState.{RunState}
+use Rattle.smv_meaning.specs.declared.run.RunAnswer.{RunAnswer}
 use Rattle.smv_meaning.specs.Checking.{instance_at, IsValuationOf}
 use Rattle.smv_meaning.specs.MetItems.{first_unmet, true_in, view_state}
 
@@ -32,6 +33,10 @@ abbrev pub AreTables : RunContext → List RunState → List (List (Option Value
 AreTables context states tables = (k : ℕ) (state : RunState) → slice_get states k ≡ Some state
     → (solution : List (Option Value)) × (slice_get tables k ≡ Some solution)
     × IsValuationOf context state solution
+
+-- the answer on the values that are written, also of paths that are no variables'
+abbrev pub written_answer : Program → List RunState → RunAnswer
+written_answer program states = answer_from program 0 None (map written_state states)
 
 -- the text of the instance with this link and path
 abbrev pub text_of_instance : Option Link → List ℕ → List ℕ

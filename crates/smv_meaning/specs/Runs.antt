@@ -1,6 +1,6 @@
 -- States, constraints, steps and runs, and the check of a written run.
-use Rattle.std.specs.Prelude.{◌≡◌, ◌&&◌, ℕ, suc, Bool, true, false, List, [], ◌∷◌, ◌++◌, map, Option, Some, None, find, codes}
-use Rattle.std.specs.List.{flat_map, list_all, All, Contains}
+use Rattle.std.specs.Prelude.{◌≡◌, ◌&&◌, if◌then◌else◌, ℕ, suc, Bool, true, false, List, [], ◌∷◌, ◌++◌, map, Option, Some, None, find, codes}
+use Rattle.std.specs.List.{flat_map, list_all, list_any, All, Contains}
 use Rattle.std.specs.Str.{bytes_eq}
 use Rattle.smv_ast.specs.PrintedExpr.{joined}
 use Rattle.smv_ast.specs.declared.syntax.Span.{Span}
@@ -17,7 +17,7 @@ use Rattle.smv_meaning.specs.Value.{Name, and_then, all_values, is_true}
 use Rattle.smv_meaning.specs.Instances.{Entity, Variable, Instance, path_of, instance_text, module_at, entries, instances}
 use Rattle.smv_meaning.specs.declared.items.Role.TheVariants as role
 use Rattle.smv_meaning.specs.Items.{Item, Assigns, Constrains, at_of, items}
-use Rattle.smv_meaning.specs.Values.{State, value_in, allows_in}
+use Rattle.smv_meaning.specs.Values.{State, values_in, value_in, allows_in}
 
 -- ---- states
 
@@ -29,11 +29,11 @@ surely (Some b) = b
 -- the roles of constraints: INIT and `init(x) :=` restrict first states, INVAR and `x :=` every
 -- state, TRANS and `next(x) :=` steps
 module _ (program : Program) (instance : Instance) where
-  -- whether a variable has in one state a value that its right side allows, read in a state and the
-  -- next
+  -- whether a name has in one state a value that its right side allows, read in a state and the next
   abbrev pub is_assigned : State → State → State → Name → Expr → Bool
   is_assigned own s t name right = surely
-      (and_then (own (path_of instance ++ name ∷ [])) (allows_in program s t instance right))
+      (and_then (values_in program own (record { instance = instance; name = name }))
+      (allows_in program s t instance right))
 
   -- whether an expression is true in a state and the state after it
   abbrev pub is_true_in : State → State → Expr → Bool
@@ -91,22 +91,37 @@ variables program = flat_map
     (λ instance. flat_map (λ e. variable_of instance e.name e.entity)
     (entries (module_at program instance))) (instances program)
 
+-- whether two paths are the same
+abbrev pub same_path : List Name → List Name → Bool
+same_path [] [] = true
+same_path (name ∷ more) (other ∷ rest) = bytes_eq name other && same_path more rest
+same_path path other = false
+
+-- whether a path is a variable's
+abbrev pub is_variable : Program → List Name → Bool
+is_variable program path = list_any (λ x. same_path x.path path) (variables program)
+
 -- each variable has one value of its type
 abbrev pub IsState : Program → State → Type 0
 IsState program s = All (λ x. (v : Value) × (s x.path ≡ Some v) × Contains (all_values x.type) v)
     (variables program)
 
+-- a state of the program: it gives each variable one value of its type, and no other path a value
+pub record IsExactState (program : Program) (s : State) : Type 0 where
+  pub values : IsState program s
+  pub only : (path : List Name) → is_variable program path ≡ false → s path ≡ None
+
 -- the suffix of a run: each state is one, meets the invariants, and follows the state before it by
 -- a step
 abbrev pub GoesOn : Program → State → List State → Type 0
 GoesOn program s [] = Unit {0}
-GoesOn program s (t ∷ more) = IsState program t × IsInside program t × IsStep program s t
+GoesOn program s (t ∷ more) = IsExactState program t × IsInside program t × IsStep program s t
     × GoesOn program t more
 
 -- a run: the first state is initial, each state meets the invariants, and each pair is a step
 abbrev pub IsRun : Program → List State → Type 0
 IsRun program [] = ⊥
-IsRun program (s ∷ more) = IsState program s × IsInit program s × IsInside program s
+IsRun program (s ∷ more) = IsExactState program s × IsInit program s × IsInside program s
     × GoesOn program s more
 
 -- the last of these states
@@ -129,9 +144,14 @@ path_text = joined (codes ".")
 abbrev pub written_value : List Named → List ℕ → Option Value
 written_value values text = and_then (find (λ n. bytes_eq n.path text) values) (λ n. Some n.value)
 
--- the state that a written state describes
-abbrev pub state_of : RunState → State
-state_of written path = written_value written.values (path_text path)
+-- the values of a written state, by the texts of their paths
+abbrev pub written_state : RunState → State
+written_state written path = written_value written.values (path_text path)
+
+-- the state that a written state describes: the values of the variables; other paths are ignored
+abbrev pub state_of : Program → RunState → State
+state_of program written path = if is_variable program path then written_state written path else
+    None
 
 -- ---- the first broken item
 
@@ -176,7 +196,7 @@ answer_from program step before (s ∷ more) =
 
 -- the answer on a written run
 abbrev pub answer_of : Program → List RunState → RunAnswer
-answer_of program written = answer_from program 0 None (map state_of written)
+answer_of program written = answer_from program 0 None (map (state_of program) written)
 
 -- whether an expression is true in a state and the instance of this text; false where there is none
 abbrev pub holds_at : Program → List ℕ → Expr → State → Bool

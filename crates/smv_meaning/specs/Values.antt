@@ -107,6 +107,10 @@ module _ {P : Type 0} (binding : QualifiedName P → Option (Binding P)) (symbol
 abbrev pub variable_in : State → Valuation Instance
 variable_in s qualified = s (path_of qualified.instance ++ qualified.name ∷ [])
 
+-- the values of the names of the instances in a state
+abbrev pub values_in : Program → State → Valuation Instance
+values_in program s = valuation_in (binding_at program) (symbol_of program) (variable_in s)
+
 -- the environment of an instance in a state
 abbrev pub environment_in : Program → State → Instance → Environment
 environment_in program s = let valuation : Valuation Instance = valuation_in (binding_at program) (symbol_of program) (variable_in s) in environment_by (binding_at program) (symbol_of program) valuation

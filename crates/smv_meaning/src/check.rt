@@ -19,6 +19,7 @@ use crate::met_items::{View, first_unmet};
 use crate::order::order_of;
 use crate::run::{Run, RunAnswer, RunState};
 use crate::scope::{Scope, scopes_of};
+use crate::symbols::symbols_of;
 use crate::table::{InstanceTable, instance_table};
 use crate::valuation::{RunContext, value_of_binding};
 use crate::value::Value;
@@ -97,7 +98,7 @@ fn run_answer<'t>(
         ≡ instances.instances context.now.program.now }
     requires tables { check.AreTables context.now states.now tables.now }
     requires short { length states.now < 2 ^ 32 }
-    ensures { IfOk result (λ a. a ≡ spec.answer_of context.now.program.now states.now) }
+    ensures { IfOk result (λ a. a ≡ check.written_answer context.now.program.now states.now) }
 {
     let mut before = None;
     let mut step: u32 = 0;
@@ -121,7 +122,7 @@ fn run_in<'t>(
 ) -> Result<RunAnswer, NoMemory>
     requires right { checking.IsContextOfProgram context.now }
     requires short { length states.now < 2 ^ 32 }
-    ensures { IfOk result (λ a. a ≡ spec.answer_of context.now.program.now states.now) }
+    ensures { IfOk result (λ a. a ≡ check.written_answer context.now.program.now states.now) }
 {
     let index = ItemsByName::of_program(alloc, context.program)?;
     let order = order_of(alloc, context.program, context.table)?;
@@ -149,13 +150,15 @@ fn run_of_context(
     requires aliases { slots.AreAliases table.now aliases.now }
     requires texts { valuation.SpellsNames table.now.rows texts.now }
     requires short { length states.now < 2 ^ 32 }
-    ensures { IfOk result (λ a. a ≡ spec.answer_of program.now states.now) }
+    ensures { IfOk result (λ a. a ≡ check.written_answer program.now states.now) }
 {
+    let symbols = symbols_of(alloc, program)?;
     let context = RunContext {
         program,
         table,
         aliases,
         texts,
+        symbols: &symbols,
     };
     run_in(alloc, &context, states)
 }
@@ -168,7 +171,7 @@ fn run_of_table(
 ) -> Result<RunAnswer, NoMemory>
     requires right { checking.IsTableOfProgram program.now table.now }
     requires short { length states.now < 2 ^ 32 }
-    ensures { IfOk result (λ a. a ≡ spec.answer_of program.now states.now) }
+    ensures { IfOk result (λ a. a ≡ check.written_answer program.now states.now) }
 {
     let aliases = aliases_of(alloc, table)?;
     let texts = path_texts(alloc, table.rows.as_slice())?;
@@ -190,7 +193,7 @@ fn run_of_scopes(
 ) -> Result<RunAnswer, NoMemory>
     requires scopes { map scope_view scopes.now ≡ scopes_of_program program.now }
     requires short { length states.now < 2 ^ 32 }
-    ensures { IfOk result (λ a. a ≡ spec.answer_of program.now states.now) }
+    ensures { IfOk result (λ a. a ≡ check.written_answer program.now states.now) }
 {
     match instance_table(alloc, program, scopes, usize::MAX)? {
         Some(table) => run_of_table(alloc, program, &table, states),
@@ -202,14 +205,15 @@ fn run_of_scopes(
 /// Whether a list of states is a run of a program; else the first item that breaks, in the order of
 /// the instances and of the text, at the first state where one does. Values are not compared with
 /// the types of their variables: where each variable has a value of its type, and there is a state,
-/// the answer is `Run` exactly at runs. The answer on no states is `Run`. The only error is
-/// `NoMemory`.
+/// the answer is `Run` exactly at runs. Written values of other paths are ignored. The answer on no
+/// states is `Run`. The only error is `NoMemory`.
 pub fn check_run(alloc: Global, program: &Program, run: &Run) -> Result<RunAnswer, NoMemory>
     requires { length run.now.states < 2 ^ 32 }
     ensures exact { IfOk result (λ a. a ≡ spec.answer_of program.now run.now.states) }
     ensures law { IfOk result (λ a. 0 < length run.now.states
-        → All (spec.IsState program.now) (map spec.state_of run.now.states) → (a ≡ RunAnswer.Run)
-        ↔ spec.IsRun program.now (map spec.state_of run.now.states)) }
+        → All (spec.IsState program.now) (map (spec.state_of program.now) run.now.states)
+        → (a ≡ RunAnswer.Run)
+        ↔ spec.IsRun program.now (map (spec.state_of program.now) run.now.states)) }
 {
     let scopes = scopes_of(alloc, program)?;
     run_of_scopes(alloc, program, scopes.as_slice(), run.states.as_slice())

@@ -10,6 +10,7 @@ pub mod item_index;
 pub mod items;
 pub mod mentions;
 pub mod met_items;
+pub mod name_sets;
 pub mod names;
 pub mod operators;
 pub mod order;
@@ -22,6 +23,7 @@ pub mod symbols;
 pub mod table;
 pub mod valuation;
 mod value;
+mod written;
 
 pub use check::check_run;
 pub use run::{Named, Run, RunAnswer, RunState};

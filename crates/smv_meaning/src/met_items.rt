@@ -6,11 +6,12 @@ ghost use Rattle.smv_meaning.specs.Checking as checking;
 ghost use Rattle.smv_meaning.specs.Value.{is_true as is_true_value};
 ghost use Rattle.smv_meaning.specs.MetItems as items;
 
+use crate::aliases::slot_of;
 use crate::evaluation::{allows, value};
 use crate::items::{Item, Role};
 use crate::operators::truth;
 use crate::run::RunState;
-use crate::valuation::{RowReader, RunContext, variable_value};
+use crate::valuation::{RowReader, RunContext, table_value};
 use crate::value::Value;
 use smv_ast::{Assignment, Expr, Left, NoMemory, Span};
 use std::alloc::Global;
@@ -88,19 +89,23 @@ fn allows_at<'t>(
     Ok(found)
 }
 
-/// The value that a state gives a variable of an instance.
-fn own_value(
+/// The value of a name of an instance in a state.
+fn own_value<'t>(
     alloc: Global,
-    context: &RunContext,
+    context: &'t RunContext<'t>,
     row: usize,
-    view: View,
+    view: View<'t>,
     name: &str,
 ) -> Result<Option<Value>, NoMemory>
-    requires { row < length context.now.table.now.rows }
+    requires right { checking.IsContextOfProgram context.now }
+    requires row { row < length context.now.table.now.rows }
+    requires view { items.IsView context.now view }
     ensures { IfOk result (λ v. v ≡ items.own_row context.now row view.entry name.now) }
 {
-    let found = variable_value(alloc, context, view.written, row, name)?;
-    Ok(found)
+    match slot_of(context.table, row, name) {
+        Some(slot) => table_value(alloc, view.solution, slot),
+        None => Ok(None),
+    }
 }
 
 fn is_true(found: Option<Value>) -> bool
@@ -133,7 +138,7 @@ pub fn is_true_in<'t>(
     Ok(is_true(value_at(alloc, context, row, now, after, e)?))
 }
 
-/// Whether a variable has in one state a value that its right side allows in a state and the state
+/// Whether a name has in one state a value that its right side allows in a state and the state
 /// after it.
 fn is_assigned<'t>(
     alloc: Global,
@@ -146,6 +151,7 @@ fn is_assigned<'t>(
 ) -> Result<bool, NoMemory>
     requires right { checking.IsContextOfProgram context.now }
     requires row { row < length context.now.table.now.rows }
+    requires own { items.IsView context.now own }
     requires now { items.IsView context.now now }
     requires after { items.IsView context.now after }
     ensures { IfOk result (λ b. b

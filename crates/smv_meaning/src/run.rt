@@ -10,7 +10,8 @@ pub struct Named {
     pub value: Value,
 }
 
-/// The values of the variables. Of two values for one path the first takes precedence.
+/// The values of the variables. Of two values for one path the first takes precedence; a path that
+/// is no variable's is ignored.
 #[derive(Drop)]
 pub struct RunState {
     pub values: List<Named>,

@@ -17,6 +17,7 @@ use crate::met_items::{View, is_true_in};
 use crate::order::order_of;
 use crate::run::RunState;
 use crate::scope::{Scope, scopes_of};
+use crate::symbols::symbols_of;
 use crate::table::{InstanceTable, Link, instance_table};
 use crate::valuation::{RunContext, value_of_binding};
 use crate::value::Value;
@@ -130,13 +131,15 @@ fn holds_of_context(
     requires names { valuation.SpellsNames table.now.rows texts.now }
     requires paths { valuation.ArePathTexts table.now.rows texts.now }
     ensures { IfOk result (λ b. b
-        ≡ spec.holds_at program.now instance.now e.now (spec.state_of state.now)) }
+        ≡ spec.holds_at program.now instance.now e.now (spec.written_state state.now)) }
 {
+    let symbols = symbols_of(alloc, program)?;
     let context = RunContext {
         program,
         table,
         aliases,
         texts,
+        symbols: &symbols,
     };
     let solution = value_of_binding(alloc, &context, state)?;
     holds_by(alloc, &context, instance, e, state, solution.as_slice())
@@ -155,7 +158,7 @@ fn holds_by<'t>(
     requires texts { valuation.ArePathTexts context.now.table.now.rows context.now.texts.now }
     requires solution { checking.IsValuationOf context.now written.now solution.now }
     ensures { IfOk result (λ b. b
-        ≡ spec.holds_at context.now.program.now instance.now e.now (spec.state_of written.now)) }
+        ≡ spec.holds_at context.now.program.now instance.now e.now (spec.written_state written.now)) }
 {
     holds_in(alloc, context, instance, e, View { written, solution })
 }
@@ -170,7 +173,7 @@ fn holds_of_table(
 ) -> Result<bool, NoMemory>
     requires { checking.IsTableOfProgram program.now table.now }
     ensures { IfOk result (λ b. b
-        ≡ spec.holds_at program.now instance.now e.now (spec.state_of state.now)) }
+        ≡ spec.holds_at program.now instance.now e.now (spec.written_state state.now)) }
 {
     let aliases = aliases_of(alloc, table)?;
     let texts = path_texts(alloc, table.rows.as_slice())?;
@@ -196,7 +199,7 @@ fn holds_of_scopes(
 ) -> Result<bool, NoMemory>
     requires { map scope_view scopes.now ≡ scopes_of_program program.now }
     ensures { IfOk result (λ b. b
-        ≡ spec.holds_at program.now instance.now e.now (spec.state_of state.now)) }
+        ≡ spec.holds_at program.now instance.now e.now (spec.written_state state.now)) }
 {
     match instance_table(alloc, program, scopes, usize::MAX)? {
         Some(table) => holds_of_table(alloc, program, &table, instance, e, state),
@@ -216,7 +219,7 @@ pub fn spec_holds(
     state: &RunState,
 ) -> Result<bool, NoMemory>
     ensures { IfOk result (λ b. b
-        ≡ spec.holds_at program.now instance.now expr.now (spec.state_of state.now)) }
+        ≡ spec.holds_at program.now instance.now expr.now (spec.state_of program.now state.now)) }
 {
     let scopes = scopes_of(alloc, program)?;
     holds_of_scopes(alloc, program, scopes.as_slice(), instance, expr, state)

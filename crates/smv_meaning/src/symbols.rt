@@ -1,83 +1,67 @@
 //! The symbols of a program: the words of its enumerations.
 
-ghost use Rattle.std.specs.Prelude.{◌≡◌, IfOk};
-ghost use Rattle.smv_meaning.specs.Values as spec;
+ghost use Rattle.std.specs.Prelude.{◌≡◌, IfOk, OnOk};
+ghost use Rattle.smv_meaning.specs.Items.{item_view};
+ghost use Rattle.smv_meaning.specs.NameSets.{in_set, no_name, and_names};
+ghost use Rattle.smv_meaning.specs.Symbols as spec;
+ghost use Rattle.smv_meaning.specs.Values.{is_symbol};
 
-use crate::value::Value;
-use smv_ast::{Declared, NoMemory, Program, Section, SmvType, Text};
+use crate::items::{Item, program_items};
+use crate::name_sets::{insert_name, no_names};
+use smv_ast::{Declared, NoMemory, Program, SmvType};
 use std::alloc::Global;
+use std::collections::HashSet;
 
-fn type_names(type_: &SmvType, name: &str) -> bool
-    ensures { result ≡ spec.type_names type_.now name.now }
+fn insert_type<'a>(names: &mut HashSet<&'a str>, type_: &'a SmvType) -> Result<(), NoMemory>
+    ensures { OnOk result (in_set names.new
+        ≡ and_names (in_set names.old) (spec.type_symbols type_.now)) }
 {
-    let SmvType::Symbols(names) = type_ else {
-        return false;
+    let SmvType::Symbols(symbols) = type_ else {
+        return Ok(());
     };
-    for symbol in names.as_slice() {
-        if symbol.as_str() == name {
-            return true;
-        }
+    for symbol in symbols.as_slice() {
+        insert_name(names, symbol)?;
     }
-    false
+    Ok(())
 }
 
-fn declared_names(what: &Declared, name: &str) -> bool
-    ensures { result ≡ spec.declared_names what.now name.now }
+fn insert_declared<'a>(names: &mut HashSet<&'a str>, what: &'a Declared) -> Result<(), NoMemory>
+    ensures { OnOk result (in_set names.new
+        ≡ and_names (in_set names.old) (spec.declared_symbols what.now)) }
 {
     match what {
-        Declared::Plain(type_) => type_names(type_, name),
-        Declared::Instance { .. } => false,
+        Declared::Plain(type_) => insert_type(names, type_),
+        Declared::Instance { .. } => Ok(()),
     }
 }
 
-fn section_names(section: &Section, name: &str) -> bool
-    ensures { result ≡ spec.section_names section.now name.now }
+fn insert_item<'a>(names: &mut HashSet<&'a str>, item: Item<'a>) -> Result<(), NoMemory>
+    ensures { OnOk result (in_set names.new
+        ≡ and_names (in_set names.old) (spec.item_symbols (item_view item.entry))) }
 {
-    let Section::Vars(declarations) = section else {
-        return false;
-    };
-    for declaration in declarations.as_slice() {
-        if declared_names(&declaration.what, name) {
-            return true;
-        }
+    match item {
+        Item::Declaration(declaration) => insert_declared(names, &declaration.what),
+        _ => Ok(()),
     }
-    false
 }
 
-fn module_names(sections: &[Section], name: &str) -> bool
-    ensures { result ≡ spec.module_names sections.now name.now }
+#[tactic(auto, using(crate::proofs::NameSetLemmas::and_names_append))]
+fn all_symbols<'a>(alloc: Global, program: &'a Program) -> Result<HashSet<&'a str>, NoMemory>
+    ensures { IfOk result (λ names. in_set names ≡ and_names no_name (spec.symbols program.now)) }
 {
-    for section in sections {
-        if section_names(section, name) {
-            return true;
-        }
+    let items = program_items(alloc, program)?;
+    let mut names = no_names(alloc);
+    for item in items.as_slice() {
+        insert_item(&mut names, *item)?;
     }
-    false
+    Ok(names)
 }
 
-/// Whether the name is a symbol of a type of the program.
-pub fn is_symbol(program: &Program, name: &str) -> bool
-    ensures { result ≡ spec.is_symbol program.now name.now }
+/// The set of the symbols of a program: a name is in it exactly where it is a word of one of the
+/// program's enumerations.
+pub fn symbols_of<'a>(alloc: Global, program: &'a Program) -> Result<HashSet<&'a str>, NoMemory>
+    ensures { IfOk result (λ names. in_set names ≡ is_symbol program.now) }
 {
-    for owner in program.modules.as_slice() {
-        if module_names(owner.sections.as_slice(), name) {
-            return true;
-        }
-    }
-    false
-}
-
-/// The symbol that a path of one name denotes, if it denotes one.
-pub fn symbol_of(alloc: Global, program: &Program, path: &[Text]) -> Result<Option<Value>, NoMemory>
-    ensures { IfOk result (λ v. v ≡ spec.symbol_of program.now path.now) }
-{
-    match path {
-        [name] => {
-            if is_symbol(program, name.as_str()) {
-                return Ok(Some(Value::Symbol(name.try_clone(alloc)?)));
-            }
-            Ok(None)
-        }
-        _ => Ok(None),
-    }
+    let names = all_symbols(alloc, program)?;
+    Ok(names)
 }

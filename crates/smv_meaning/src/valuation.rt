@@ -3,33 +3,24 @@
 ghost use Rattle.std.specs.Prelude.{◌≡◌, IfOk, List, ℕ, Some, None, slice_get};
 ghost use Rattle.fixpoint.specs.Fixpoints.{entry};
 ghost use Rattle.smv_meaning.specs.Slots as slots;
-ghost use Rattle.smv_meaning.specs.Runs.{state_of, written_value};
+ghost use Rattle.smv_meaning.specs.NameSets.{in_set};
+ghost use Rattle.smv_meaning.specs.Runs.{written_state};
 ghost use Rattle.smv_meaning.specs.Valuation as valuation;
+ghost use Rattle.smv_meaning.specs.Values.{is_symbol as is_symbol_of, symbol_of as symbol_in};
 
 use crate::aliases::resolve;
 use crate::evaluation::{Reader, value};
 use crate::instance_texts::text_below;
 use crate::mentions::push_paths;
-use crate::run::{Named, RunState};
-use crate::symbols::symbol_of;
+use crate::run::RunState;
 use crate::table::{Binding, InstanceTable};
 use crate::value::Value;
+use crate::written::WrittenState;
 use fixpoint::{Step, fill};
 use smv_ast::{Expr, List, NoMemory, Path, Program, Text};
 use sqlite_items::at;
 use std::alloc::Global;
-
-/// The value that a written state has for the text of a path; of two the first takes precedence.
-fn written_value_of(alloc: Global, values: &[Named], text: &str) -> Result<Option<Value>, NoMemory>
-    ensures { IfOk result (λ v. v ≡ written_value values.now text.now) }
-{
-    for named in values {
-        if named.path.as_str() == text {
-            return Ok(Some(named.value.try_clone(alloc)?));
-        }
-    }
-    Ok(None)
-}
+use std::collections::HashSet;
 
 /// The context of a run: the instance table of the program, with the data that every state shares.
 #[derive(Drop)]
@@ -40,9 +31,34 @@ pub struct RunContext<'t> {
     pub aliases: &'t [Option<usize>],
     /// The text of the path of each instance.
     pub texts: &'t [Text],
+    /// The symbols of all enumerations.
+    pub symbols: &'t HashSet<&'t str>,
     ghost has: { slots.HasSlots table.now },
     ghost is_of: { slots.AreAliases table.now aliases.now },
     ghost spells: { valuation.SpellsNames table.now.rows texts.now },
+    ghost words: { in_set symbols.now ≡ is_symbol_of program.now },
+}
+
+/// Whether a name is a symbol of an enumeration.
+fn is_symbol(context: &RunContext, name: &Text) -> bool
+    ensures { result ≡ is_symbol_of context.now.program.now name.now }
+{
+    context.symbols.contains(name.as_str())
+}
+
+/// The symbol that a path of one name denotes, if it denotes one.
+fn symbol_of(alloc: Global, context: &RunContext, path: &[Text]) -> Result<Option<Value>, NoMemory>
+    ensures { IfOk result (λ v. v ≡ symbol_in context.now.program.now path.now) }
+{
+    match path {
+        [name] => {
+            if is_symbol(context, name) {
+                return Ok(Some(Value::Symbol(name.try_clone(alloc)?)));
+            }
+            Ok(None)
+        }
+        _ => Ok(None),
+    }
 }
 
 /// The text of the path of a name, if there is such an instance.
@@ -65,19 +81,19 @@ fn name_text(
 }
 
 /// The value that a written state has for a variable.
-pub fn variable_value(
+fn variable_value(
     alloc: Global,
     context: &RunContext,
-    written: &RunState,
+    written: &WrittenState,
     row: usize,
     name: &str,
 ) -> Result<Option<Value>, NoMemory>
     ensures { IfOk result (λ v. v
-        ≡ valuation.variable_at context.now.table.now (state_of written.now)
+        ≡ valuation.variable_at context.now.table.now (written_state written.now.state.now)
         (record { instance = row; name = name.now })) }
 {
     match name_text(alloc, context, row, name)? {
-        Some(text) => written_value_of(alloc, written.values.as_slice(), text.as_str()),
+        Some(text) => written.value_of(alloc, text.as_str()),
         None => Ok(None),
     }
 }
@@ -105,13 +121,13 @@ impl<'t> Reader for RowReader<'t> {
             path.names.as_slice(),
         ) {
             Some(slot) => table_value(alloc, self.solution, slot),
-            None => symbol_of(alloc, context.program, path.names.as_slice()),
+            None => symbol_of(alloc, context, path.names.as_slice()),
         }
     }
 }
 
 /// The value that a table has for a slot.
-fn table_value(
+pub fn table_value(
     alloc: Global,
     solution: &[Option<Value>],
     slot: usize,
@@ -128,7 +144,7 @@ fn table_value(
 #[derive(Drop)]
 struct ValuationStep<'t> {
     context: &'t RunContext<'t>,
-    written: &'t RunState,
+    written: &'t WrittenState<'t>,
 }
 
 impl<'t> ValuationStep<'t> {
@@ -175,15 +191,15 @@ fn unknown_in(
 }
 
 impl<'t> Step<Value> for ValuationStep<'t> {
-    ghost use Rattle.smv_meaning.specs.Runs.{state_of};
+    ghost use Rattle.smv_meaning.specs.Runs.{written_state};
     ghost use Rattle.smv_meaning.specs.Valuation.{valuation_slots};
     ghost use Rattle.smv_meaning.specs.StepMonotone.{valuation_slots_monotone};
 
     ghost step = { λ me. valuation_slots me.context.now.program.now me.context.now.table.now
-        (state_of me.written.now) };
+        (written_state me.written.now.state.now) };
 
     ghost monotone = { λ me. valuation_slots_monotone me.context.now.program.now
-        me.context.now.table.now (state_of me.written.now) };
+        me.context.now.table.now (written_state me.written.now.state.now) };
 
     fn step(
         &self,
@@ -236,13 +252,13 @@ pub fn value_of_binding(
     written: &RunState,
 ) -> Result<List<Option<Value>>, NoMemory>
     ensures { IfOk result (λ solution. valuation.IsValuationTable context.now.program.now
-        context.now.table.now (state_of written.now) solution) }
+        context.now.table.now (written_state written.now) solution) }
 {
-    let solution = fill(
-        alloc,
-        &ValuationStep { context, written },
-        context.table.slots.len(),
-        &[],
-    )?;
+    let written = WrittenState::of_state(alloc, written)?;
+    let step = ValuationStep {
+        context,
+        written: &written,
+    };
+    let solution = fill(alloc, &step, context.table.slots.len(), &[])?;
     Ok(solution)
 }

@@ -1,6 +1,16 @@
-use Rattle.std.proofs.Common.{◌∙◌}
+use Rattle.std.proofs.Common.{◌≡◌, ℕ, Option, Some, None, sym, ap, ◌∙◌, subst, IfOk}
+use Rattle.smv_meaning.specs.declared.value.Value.{Value}
+use Rattle.fixpoint.specs.Fixpoints.{entry}
+use Rattle.smv_meaning.specs.Value.{and_then}
 use Rattle.smv_meaning.proofs.MetItemLemmas.{own_is}
 use Rattle.smv_meaning.proofs.met_items.own_value.Goals as goal
 
-pub returns : goal.returns
-returns c = c.in_ok-found.ensures ∙ own_is c.args.context.now c.args.row c.args.view c.args.name.now c.requires
+pub returns-in-Some : goal.returns-in-Some
+returns-in-Some c =
+    let here = ap (λ (o : Option ℕ). and_then o (entry c.args.view.solution.now)) (sym c.in-Some.is ∙ c.slot_of.ensures) in
+    subst (λ (o : Option Value). IfOk c.table_value.result (λ v. v ≡ o)) (here ∙ own_is c.args.context.now c.args.row c.args.view c.args.name.now c.requires.right c.requires.row c.requires.view) c.table_value.ensures
+
+pub returns-in-None : goal.returns-in-None
+returns-in-None c =
+    let here = ap (λ (o : Option ℕ). and_then o (entry c.args.view.solution.now)) (sym c.in-None.is ∙ c.slot_of.ensures) in
+    here ∙ own_is c.args.context.now c.args.row c.args.view c.args.name.now c.requires.right c.requires.row c.requires.view

@@ -1,6 +1,11 @@
-use Rattle.smv_meaning.specs.Runs.{state_of}
+use Rattle.std.proofs.Common.{subst}
+use Rattle.smv_meaning.specs.declared.run.RunState.{RunState}
+use Rattle.smv_meaning.specs.Runs.{written_state}
+use Rattle.smv_meaning.specs.Valuation.{IsValuationTable}
 use Rattle.smv_meaning.proofs.SlotLemmas.{is_valuation_table}
 use Rattle.smv_meaning.proofs.valuation.value_of_binding.Goals as goal
 
 pub returns : goal.returns
-returns c = is_valuation_table c.args.context.now.program.now c.args.context.now.table.now (state_of c.args.written.now) c.in_ok-solution.solution c.args.context.now.has c.in_ok-solution.ensures.1
+returns c =
+    subst (λ (w : RunState). IsValuationTable c.args.context.now.program.now c.args.context.now.table.now (written_state w) c.in_ok-solution.solution) c.in_ok-written.ensures
+    (is_valuation_table c.args.context.now.program.now c.args.context.now.table.now (written_state c.in_ok-written.written.state.now) c.in_ok-solution.solution c.args.context.now.has c.in_ok-solution.ensures.1)
