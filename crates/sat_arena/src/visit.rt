@@ -48,11 +48,16 @@ pub fn visit(
         (watch / 2)) }
 {
     let falsified = entry.lit.negate();
+    let other = watched[other_watch(watch)];
+
+    // Most visits end here, without a look at the clause.
+    if trail.has_true(other) {
+        return Some(falsified);
+    }
     let lits = clauses[watch / 2].lits();
     if lits.len() < 2 {
         return Some(falsified);
     }
-    let other = watched[other_watch(watch)];
     match choose(trail, lits, other) {
         Choice::Stay => Some(falsified),
         Choice::Move(lit) => Some(lit),

@@ -16,9 +16,8 @@ ghost use Rattle.sat_search.specs.Endings.{IsEnd, Records, EndsBy, Refutes, IsRe
 use crate::answer::Answer;
 use crate::solver::Solver;
 use fsmv_base::{Id, NoMemory};
-use sat_analyze::Learnt;
+use sat_analyze::{Analyzer, Learnt};
 use sat_lits::{Clause, Lit};
-use std::alloc::Global;
 
 impl Solver {
     /// The answer that needs no more lines: a clause that holds only negated assumptions, or else that
@@ -70,7 +69,7 @@ impl Solver {
     /// The answer where an assumption is false: the clause of the assumptions that make it so.
     pub fn refuse(
         &mut self,
-        alloc: Global,
+        analyzer: &mut Analyzer,
         literal_set: &[bool],
         most: u32,
         lit: Lit,
@@ -85,14 +84,14 @@ impl Solver {
         if let Some(answer) = self.known_answer(literal_set, most) {
             return Ok(answer);
         }
-        let learnt = self.explain(alloc, lit)?;
+        let learnt = self.explain(analyzer, lit)?;
         self.conclude(literal_set, most, &learnt)
     }
 
     /// The answer where a clause is false at level 0: the empty clause.
     pub fn refute(
         &mut self,
-        alloc: Global,
+        analyzer: &mut Analyzer,
         literal_set: &[bool],
         most: u32,
         position: u32,
@@ -108,7 +107,7 @@ impl Solver {
         if let Some(answer) = self.known_answer(literal_set, most) {
             return Ok(answer);
         }
-        let learnt = self.learn(alloc, position)?;
+        let learnt = self.learn(analyzer, position)?;
         self.conclude(literal_set, most, &learnt)
     }
 

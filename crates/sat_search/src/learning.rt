@@ -10,14 +10,14 @@ ghost use Rattle.sat_search.specs.Endings.{AddsNewLine, EndsBy};
 use crate::answer::Answer;
 use crate::solver::Solver;
 use fsmv_base::NoMemory;
-use std::alloc::Global;
+use sat_analyze::Analyzer;
 
 impl Solver {
     /// Learns from the false clause at the position and goes back, or answers where that is not possible or
     /// not allowed: at level 0, and where the log has as many lines as it may have.
     pub fn meet_conflict(
         &mut self,
-        alloc: Global,
+        analyzer: &mut Analyzer,
         literal_set: &[bool],
         most: u32,
         position: u32,
@@ -36,13 +36,13 @@ impl Solver {
         ensures err { OnErr result (self.new.log ≡ self.old.log) }
     {
         if self.propagator.trail().level() == 0 {
-            let answer = self.refute(alloc, literal_set, most, position)?;
+            let answer = self.refute(analyzer, literal_set, most, position)?;
             return Ok(Some(answer));
         }
         if self.log.derived() >= most {
             return Ok(self.known_answer(literal_set, most));
         }
-        self.learn_from(alloc, most, position, restart)?;
+        self.learn_from(analyzer, most, position, restart)?;
         Ok(None)
     }
 
@@ -50,7 +50,7 @@ impl Solver {
     /// learnt clause forces a literal, or to level 0.
     fn learn_from(
         &mut self,
-        alloc: Global,
+        analyzer: &mut Analyzer,
         most: u32,
         position: u32,
         restart: bool,
@@ -66,8 +66,8 @@ impl Solver {
         ensures ok { OnOk result (AddsNewLine self.old.log self.new.log most) }
         ensures err { OnErr result (self.new.log ≡ self.old.log) }
     {
-        let learnt = self.learn(alloc, position)?;
-        self.order.bump(learnt.clause.lits());
+        let learnt = self.learn(analyzer, position)?;
+        self.order.bump(analyzer.met());
         self.back(back_level(learnt.level, restart));
         self.record(&learnt.clause, learnt.hints.as_slice())?;
         Ok(())
