@@ -1,5 +1,5 @@
 -- A walk, from one position to the one before.
-use Rattle.std.proofs.Common.{◌≡◌, ◌≢◌, ◌⊎◌, ℕ, ◌+◌, ◌<◌, ◌≤◌, Bool, true, List, [], ◌∷◌, ◌++◌, Option, Some, None, length, map, min, get_or, take, arith, inl, inr, sym, ◌∙◌, ap, subst, refl}
+use Rattle.std.proofs.Common.{◌≡◌, ◌≢◌, ◌⊎◌, ℕ, ◌+◌, ◌<◌, ◌≤◌, Bool, true, List, [], ◌∷◌, ◌++◌, Option, Some, None, length, map, min, get_or, take, arith, inl, inr, sym, ◌∙◌, ap, subst, refl, zero, suc}
 use Rattle.std.specs.Prelude.{Contains, IfSome}
 use Rattle.std.specs.List.{AllPairs}
 use Rattle.std.proofs.lemmas.Bool.{cases_eq, cases_lt, both_ways}
@@ -107,6 +107,21 @@ IsWalk-skip stored entries i here walk at unmarked is = record {
   apart = is.apart;
   refutes = RefutesFrom-skip stored entries i here walk.marks.seen.items walk.kept.items walk.hints.items at unmarked is.refutes;
 }
+
+-- positions that are not marked are stepped over at once
+pub IsWalk-skips : (stored : List Stored) (entries : List Assigned) (from to : ℕ) (walk : Walk) → to ≤ from → ((i : ℕ) → to ≤ i → i < from → IsMarked walk.marks.seen.items i → ⊥) → IsWalk stored entries from walk → IsWalk stored entries to walk
+IsWalk-skips stored entries zero to walk low unmarked is = subst (λ (n : ℕ). IsWalk stored entries n walk) (omega arith) is
+IsWalk-skips stored entries (suc k) to walk low unmarked is = elim (cases_eq to (suc k)) [
+  | inl same ↦ subst (λ (n : ℕ). IsWalk stored entries n walk) (sym same) is
+  | inr differ ↦
+      let next : suc k ≡ k + 1 = omega arith in
+      let within : k < length entries = omega (arith, is.within) in
+      let other : Assigned = record { lit = 0; level = 0; reason = None } in
+      let here : Assigned = get_or entries k other in
+      IsWalk-skips stored entries k to walk (omega arith) (λ i from before. unmarked i from (omega arith))
+      (IsWalk-skip stored entries k here walk (within, get_or_default entries k here other within) (unmarked k (omega arith) (omega arith))
+      (subst (λ (n : ℕ). IsWalk stored entries n walk) next is))
+]
 
 -- what a reason's clause has for a reason
 pub record HasReason (stored : List Stored) (entries : List Assigned) (i : ℕ) (here : Assigned) (reason : ℕ) : Type 0 where

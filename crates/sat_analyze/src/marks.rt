@@ -1,10 +1,13 @@
 //! Marks at the positions of a trail.
-ghost use Rattle.std.specs.Prelude.{◌≡◌, ℕ, ◌<◌, ◌^◌, ◌↔◌, ◌⊎◌, true, All, IsTrue, length, slice_index, slice_set};
+ghost use Rattle.std.specs.Prelude.{◌≡◌, ℕ, ◌<◌, ◌≤◌, ◌^◌, ◌↔◌, ◌⊎◌, true, false, All, IsTrue, length, slice_index, slice_set};
 ghost use Rattle.sat_lits.specs.Literals.{variable_of};
 ghost use Rattle.sat_analyze.specs.Marked.{IsMarked, ArePositioned, IsPositionOf, IsCovered, IsLowest};
 
 use sat_arena::Assigned;
 use sat_lits::Lit;
+
+/// How many positions are stepped over at once, where none of them is marked.
+const BLOCK: usize = 64;
 
 /// Which entries of a trail are marked, by their positions. Where an entry stands is told by a table of
 /// positions, by variables.
@@ -53,6 +56,23 @@ impl Marks {
         }
     }
 
+    /// A position not above this one, where nothing from there up to this one is marked. It steps over whole
+    /// blocks, since most of a long trail is not marked.
+    pub fn skip_unmarked(&self, position: usize) -> usize
+        requires { position ≤ length self.now.seen.items }
+        ensures low { result ≤ position }
+        ensures unmarked { (i : ℕ) → result ≤ i → i < position → IsMarked self.now.seen.items i → ⊥ }
+    {
+        if position % BLOCK != 0 {
+            return position;
+        }
+        let mut at = position;
+        while at >= BLOCK && !has_mark(&self.seen[at - BLOCK..at]) {
+            at -= BLOCK;
+        }
+        at
+    }
+
     /// Whether each literal stands at a marked position or at level 0.
     pub fn cover(&self, entries: &[Assigned], positions: &[u32], lits: &[Lit]) -> bool
         requires sized { length self.now.seen.items ≡ length entries.now }
@@ -68,6 +88,17 @@ impl Marks {
         }
         true
     }
+}
+
+/// Whether one of these is marked. It reads them all, since many are read at once.
+fn has_mark(seen: &[bool]) -> bool
+    ensures { result ≡ false → (k : ℕ) → IsMarked seen.now k → ⊥ }
+{
+    let mut any = false;
+    for flag in seen {
+        any |= *flag;
+    }
+    any
 }
 
 /// Where the literal's variable stands on the trail.

@@ -148,8 +148,11 @@ impl Walk {
         ensures start { OnOk result (self.new.marks.start ≡ self.old.marks.start) }
         ensures apart { OnOk result (from ≤ self.old.marks.lowest → from ≤ self.new.marks.lowest) }
     {
-        for position in (0..from).rev() {
+        let mut position = self.marks.skip_unmarked(from);
+        while position > 0 {
+            position -= 1;
             self.step(arena, entries, positions, position, keeping)?;
+            position = self.marks.skip_unmarked(position);
         }
         Ok(())
     }

@@ -6,10 +6,10 @@ ghost use Rattle.sat_arena.specs.Trails.{true_in, marked};
 ghost use Rattle.sat_arena.specs.ArenaState.{clauses_of};
 ghost use Rattle.sat_arena.specs.Justified.{IsDecision};
 ghost use Rattle.sat_analyze.specs.Learnt.{IsLearnt, IsFinal};
+ghost use Rattle.sat_search.specs.Assumed.{assumed};
 ghost use Rattle.sat_search.specs.Solvers.{IsSolver};
 ghost use Rattle.sat_search.specs.LoopEnds.{IsNewConflict};
 
-use crate::cores::find_falsified;
 use crate::solver::Solver;
 use fsmv_base::{Id, NoMemory};
 use sat_analyze::{Analyzer, Learnt};
@@ -37,15 +37,16 @@ impl Solver {
         analyzer.final_clause(self.propagator.arena(), self.propagator.trail(), lit)
     }
 
-    /// The position of the first clause that holds only negations of literals of the set.
-    pub fn find_core(&self, literal_set: &[bool]) -> Option<u32>
+    /// The position of a clause that holds only negated assumptions.
+    pub fn find_core(&self, assumptions: &[Lit], literal_set: &[bool]) -> Option<u32>
+        requires { (l : ℕ) → marked literal_set.now l ≡ assumed assumptions.now l }
         ensures some { IfSome result (λ position. (position < length self.now.propagator.stored)
             × IsFalsified (marked literal_set.now)
             (slice_index_or (clauses_of self.now.propagator.stored) position [])) }
         ensures none { IfNone result (All (λ clause. IsFalsified (marked literal_set.now) clause → ⊥)
             (clauses_of self.now.propagator.stored)) }
     {
-        find_falsified(self.propagator.arena(), literal_set)
+        self.propagator.find_falsified(assumptions, literal_set)
     }
 
     /// The id of the clause at the position.

@@ -22,13 +22,19 @@ use sat_lits::{Clause, Lit};
 impl Solver {
     /// The answer that needs no more lines: a clause that holds only negated assumptions, or else that
     /// the log has as many lines as are allowed.
-    pub fn known_answer(&self, literal_set: &[bool], most: u32) -> Option<Answer>
-        requires { IsSolver self.now }
+    pub fn known_answer(
+        &self,
+        assumptions: &[Lit],
+        literal_set: &[bool],
+        most: u32,
+    ) -> Option<Answer>
+        requires solver { IsSolver self.now }
+        requires literal_set { (l : ℕ) → marked literal_set.now l ≡ assumed assumptions.now l }
         ensures some { IfSome result (IsEnd (marked literal_set.now) self.now.log most) }
         ensures none { IfNone result (NoneIsFalsifiedUnder (marked literal_set.now) self.now.log) }
         ensures room { IfNone result (length self.now.log.lines < most) }
     {
-        if let Some(position) = self.find_core(literal_set) {
+        if let Some(position) = self.find_core(assumptions, literal_set) {
             let id = self.id_at(position);
             return Some(Answer::Core { id });
         }
@@ -70,18 +76,20 @@ impl Solver {
     pub fn refuse(
         &mut self,
         analyzer: &mut Analyzer,
+        assumptions: &[Lit],
         literal_set: &[bool],
         most: u32,
         lit: Lit,
     ) -> Result<Answer, NoMemory>
         requires solver { IsSolver self.old }
+        requires literal_set { (l : ℕ) → marked literal_set.now l ≡ assumed assumptions.now l }
         requires refused { IsRefused (marked literal_set.now) self.old.propagator.entries lit }
         ensures vars { self.new.propagator.vars ≡ self.old.propagator.vars }
         ensures solver { OnOk result (IsSolver self.new) }
         ensures ok { IfOk result (EndsBy (marked literal_set.now) self.old.log self.new.log most) }
         ensures err { OnErr result (self.new.log ≡ self.old.log) }
     {
-        if let Some(answer) = self.known_answer(literal_set, most) {
+        if let Some(answer) = self.known_answer(assumptions, literal_set, most) {
             return Ok(answer);
         }
         let learnt = self.explain(analyzer, lit)?;
@@ -92,11 +100,13 @@ impl Solver {
     pub fn refute(
         &mut self,
         analyzer: &mut Analyzer,
+        assumptions: &[Lit],
         literal_set: &[bool],
         most: u32,
         position: u32,
     ) -> Result<Answer, NoMemory>
         requires solver { IsSolver self.old }
+        requires literal_set { (l : ℕ) → marked literal_set.now l ≡ assumed assumptions.now l }
         requires root { current_level self.old.propagator.entries ≡ 0 }
         requires conflict { IsNewConflict self.old position }
         ensures vars { self.new.propagator.vars ≡ self.old.propagator.vars }
@@ -104,7 +114,7 @@ impl Solver {
         ensures ok { IfOk result (EndsBy (marked literal_set.now) self.old.log self.new.log most) }
         ensures err { OnErr result (self.new.log ≡ self.old.log) }
     {
-        if let Some(answer) = self.known_answer(literal_set, most) {
+        if let Some(answer) = self.known_answer(assumptions, literal_set, most) {
             return Ok(answer);
         }
         let learnt = self.learn(analyzer, position)?;

@@ -78,10 +78,17 @@ impl Solver {
         match self.decide_all(assumptions)? {
             LoopEnd::Model => Ok(Some(Answer::Model)),
             LoopEnd::Refused(lit) => {
-                let answer = self.refuse(analyzer, literal_set, most, lit)?;
+                let answer = self.refuse(analyzer, assumptions, literal_set, most, lit)?;
                 Ok(Some(answer))
             }
-            LoopEnd::Conflict(at) => self.meet_conflict(analyzer, literal_set, most, at, restart),
+            LoopEnd::Conflict(at) => self.meet_conflict(
+                analyzer,
+                assumptions,
+                literal_set,
+                most,
+                at,
+                restart,
+            ),
         }
     }
 }
