@@ -8,13 +8,13 @@ use Rattle.sat_arena.specs.declared.trail.Assigned.{Assigned}
 use Rattle.sat_arena.specs.Stored.{Stored}
 use Rattle.sat_arena.specs.ArenaState.{clauses_of}
 use Rattle.sat_arena.specs.Trails.{IsOrderly}
-use Rattle.sat_arena.specs.Justified.{current_level, IsEntryAt, IsTrueAt}
+use Rattle.sat_arena.specs.Justified.{current_level, IsEntryAt, IsTrueAt, HasPositions}
 use Rattle.sat_analyze.specs.declared.walk.Walk.{Walk}
 use Rattle.sat_analyze.specs.declared.walk.Keeping.TheVariants.{Needed}
 use Rattle.sat_analyze.specs.declared.learnt.Learnt.{Learnt}
 use Rattle.sat_analyze.specs.Derived.{HasVariable}
 use Rattle.sat_analyze.specs.Marked.{IsMarked}
-use Rattle.sat_analyze.specs.Walked.{HasPositions, IsStart, IsWalk, Meets, IsFresh, KeepsPoint, IsKept, KeepsMore}
+use Rattle.sat_analyze.specs.Walked.{IsStart, IsWalk, Meets, IsFresh, KeepsPoint, IsKept, KeepsMore}
 use Rattle.sat_analyze.specs.Learnt.{IsNewlyFalse, Asserts, IsLearnt, IsLeft}
 use Rattle.sat_analyze.proofs.BeforeLemmas.{variable_of-negation}
 use Rattle.sat_analyze.proofs.PositionLemmas.{current_level_most}
@@ -92,8 +92,8 @@ entry_of stored entries vars met point suffix learnt has m holds = elim (has.mor
 
 -- ---- The clause at a level above 0
 
-asserts_at : (stored : List Stored) (entries : List Assigned) (vars : ℕ) (met point suffix : Walk) (learnt : Learnt) → HasLearnt stored entries vars met point suffix learnt → (entry : Assigned) → IsPoint stored entries point entry → Asserts entries learnt.clause learnt.level
-asserts_at stored entries vars met point suffix learnt has entry is = record {
+asserts_at : (stored : List Stored) (entries : List Assigned) (positions : List ℕ) (table : HasPositions entries positions) (vars : ℕ) (met point suffix : Walk) (learnt : Learnt) → HasLearnt stored entries vars met point suffix learnt → (entry : Assigned) → IsPoint stored entries point entry → Asserts entries learnt.clause learnt.level
+asserts_at stored entries positions table vars met point suffix learnt has entry is = record {
   literal = negation entry.lit;
   holds = clause_holds suffix.kept.items learnt.clause entry.lit has.left.clause kept_point;
   at_current = subst (λ (n : ℕ). IsTrueAt entries n (current_level entries)) (sym (negation-negation entry.lit))
@@ -103,12 +103,6 @@ asserts_at stored entries vars met point suffix learnt has entry is = record {
   below = below;
 }
   where
-    positions : List ℕ
-    positions = suffix.marks.positions.items
-
-    table : HasPositions entries positions
-    table = has.walk.marks.positions
-
     kept_point : Contains suffix.kept.items entry.lit
     kept_point = has.more.stay entry.lit (subst (λ (ks : List ℕ). Contains ks entry.lit) (sym is.kept) (0, omega arith, refl))
 
@@ -179,20 +173,20 @@ asserts_at stored entries vars met point suffix learnt has entry is = record {
 
 -- ---- What is learnt
 
-pub learnt_is : (stored : List Stored) (entries : List Assigned) (vars : ℕ) (met point suffix : Walk) (learnt : Learnt) → HasLearnt stored entries vars met point suffix learnt → IsLearnt stored entries learnt
-learnt_is stored entries vars met point suffix learnt has = record {
+pub learnt_is : (stored : List Stored) (entries : List Assigned) (positions : List ℕ) (table : HasPositions entries positions) (vars : ℕ) (met point suffix : Walk) (learnt : Learnt) → HasLearnt stored entries vars met point suffix learnt → IsLearnt stored entries learnt
+learnt_is stored entries positions table vars met point suffix learnt has = record {
   falsified = λ k d within.
       let l = get_or learnt.clause k d in
       let entry = entry_of stored entries vars met point suffix learnt has (negation l) (kept_holds suffix.kept.items learnt.clause l has.left.clause (Contains-get_or learnt.clause k d within)) in
       true_in_from_entry entries entry.position entry.entry (negation l) entry.stands entry.of_literal;
   above_level_zero = λ l holds there.
       let entry = entry_of stored entries vars met point suffix learnt has (negation l) (kept_holds suffix.kept.items learnt.clause l has.left.clause holds) in
-      let level : entry.entry.level ≡ 0 = level_of entries suffix.marks.positions.items entry.position entry.entry (negation l) 0 has.walk.marks.positions entry.stands entry.of_literal there in
+      let level : entry.entry.level ≡ 0 = level_of entries positions entry.position entry.entry (negation l) 0 table entry.stands entry.of_literal there in
       let above = entry.above in
       omega arith;
   asserts = λ above. elim has.points.point [
     | inl none ↦ absurd (let inside : met.marks.lowest < length entries = has.marked above in let outside : met.marks.lowest ≡ length entries = none.2 in omega arith)
-    | inr one ↦ asserts_at stored entries vars met point suffix learnt has one.0 (point_of stored entries met point one.0 has.start has.points one.1 one.2)
+    | inr one ↦ asserts_at stored entries positions table vars met point suffix learnt has one.0 (point_of stored entries met point one.0 has.start has.points one.1 one.2)
   ];
   refutes = λ root. (
     empty_clause learnt.clause (λ l holds.
@@ -216,8 +210,8 @@ learnt_is stored entries vars met point suffix learnt has = record {
     nothing_above root i e at above = let most : e.level ≤ current_level entries = current_level_most entries i e has.orderly.rising at in omega arith
 
 -- where a literal is false since the current_level level, a position of it is marked
-pub newly_marked : (stored : List Stored) (entries : List Assigned) (conflict : ℕ) (fresh met : Walk) → IsFresh entries fresh → (meets : Meets stored conflict fresh met) → (0 < current_level entries → IsNewlyFalse entries meets.met.clause) → 0 < current_level entries → met.marks.lowest < length entries
-newly_marked stored entries conflict fresh met is meets newly above =
+pub newly_marked : (stored : List Stored) (entries : List Assigned) (positions : List ℕ) (table : HasPositions entries positions) (conflict : ℕ) (fresh met : Walk) → IsFresh entries fresh → (meets : Meets stored positions conflict fresh met) → (0 < current_level entries → IsNewlyFalse entries meets.met.clause) → 0 < current_level entries → met.marks.lowest < length entries
+newly_marked stored entries positions table conflict fresh met is meets newly above =
     let new = newly above in
     let entry = new.at_current.entry in
     let at : IsEntryAt entries new.at_current.stands.0 entry = (new.at_current.stands.1, new.at_current.stands.2) in
@@ -225,6 +219,6 @@ newly_marked stored entries conflict fresh met is meets newly above =
     let same : met.marks.start ≡ fresh.marks.start = meets.start in
     let variable : variable_of entry.lit ≡ variable_of new.literal = ap variable_of new.at_current.of_literal ∙ variable_of-negation new.literal in
     let marked : IsMarked met.marks.seen.items new.at_current.stands.0
-    = (meets.exact new.at_current.stands.0).1 (inr (record { literal = new.literal; holds = new.holds; there = ap (λ v. get_or fresh.marks.positions.items v 0) (sym variable) ∙ (is.marks.positions new.at_current.stands.0 entry at).1 })) in
+    = (meets.exact new.at_current.stands.0).1 (inr (record { literal = new.literal; holds = new.holds; there = ap (λ v. get_or positions v 0) (sym variable) ∙ (table new.at_current.stands.0 entry at).1 })) in
     let least : met.marks.lowest ≤ new.at_current.stands.0 = meets.lowest.least new.at_current.stands.0 (omega arith) marked in
     omega (arith, at.0)

@@ -9,9 +9,8 @@ use Rattle.std.proofs.lemmas.List.Elements.{All-contains}
 use Rattle.sat_lits.specs.Literals.{negation, variable_of}
 use Rattle.sat_arena.specs.declared.trail.Assigned.{Assigned}
 use Rattle.sat_arena.specs.Trails.{true_in}
-use Rattle.sat_arena.specs.Justified.{IsEntryAt, IsReason}
+use Rattle.sat_arena.specs.Justified.{IsEntryAt, IsReason, HasPositions}
 use Rattle.sat_arena.proofs.JustifiedLemmas.{in_prefix}
-use Rattle.sat_analyze.specs.Walked.{HasPositions}
 use Rattle.sat_analyze.proofs.PositionLemmas.{one_at}
 
 -- an entry before the position makes the literal true

@@ -9,12 +9,12 @@ use Rattle.sat_arena.specs.declared.trail.Assigned.{Assigned}
 use Rattle.sat_arena.specs.Stored.{Stored}
 use Rattle.sat_arena.specs.ArenaState.{clauses_of}
 use Rattle.sat_arena.specs.Trails.{true_in}
-use Rattle.sat_arena.specs.Justified.{IsEntryAt, IsTrueAt, IsDecision, IsReason}
+use Rattle.sat_arena.specs.Justified.{IsEntryAt, IsTrueAt, IsDecision, IsReason, HasPositions}
 use Rattle.sat_analyze.specs.declared.walk.Walk.{Walk}
 use Rattle.sat_analyze.specs.declared.walk.Keeping.TheVariants.{Decisions}
 use Rattle.sat_analyze.specs.declared.learnt.Learnt.{Learnt}
 use Rattle.sat_analyze.specs.Derived.{HasVariable}
-use Rattle.sat_analyze.specs.Walked.{HasPositions, IsFresh, IsWalk, Meets, KeepsLit, IsKept, KeepsMore}
+use Rattle.sat_analyze.specs.Walked.{IsFresh, IsWalk, Meets, KeepsLit, IsKept, KeepsMore}
 use Rattle.sat_analyze.specs.Learnt.{IsFinal, IsLeft}
 use Rattle.sat_analyze.proofs.BeforeLemmas.{before_from_true_in, none_before, assigned_reason, variable_of-negation}
 use Rattle.sat_analyze.proofs.ClauseLemmas.{negation-negation}
@@ -66,21 +66,21 @@ has_some_reason entries lit position here read undecided =
 
 -- ---- Where the walk begins
 
-pub begin_final : (stored : List Stored) (entries : List Assigned) (lit position : ℕ) (entry : Assigned) (reason : ℕ) (fresh met walk : Walk) → IsFresh entries fresh → IsEntryAt entries position entry → entry.lit ≡ negation lit → HasReason stored entries position entry reason → Meets stored reason fresh met → KeepsLit lit met walk → IsWalk stored entries position walk × (walk.kept.items ≡ lit ∷ [])
-begin_final stored entries lit position entry reason fresh met walk is at of_literal has meets new =
+pub begin_final : (stored : List Stored) (entries : List Assigned) (positions : List ℕ) (table : HasPositions entries positions) (lit position : ℕ) (entry : Assigned) (reason : ℕ) (fresh met walk : Walk) → IsFresh entries fresh → IsEntryAt entries position entry → entry.lit ≡ negation lit → HasReason stored entries position entry reason → Meets stored positions reason fresh met → KeepsLit lit met walk → IsWalk stored entries position walk × (walk.kept.items ≡ lit ∷ [])
+begin_final stored entries positions table lit position entry reason fresh met walk is at of_literal has meets new =
     let none : met.kept.items ≡ [] = ap (λ v. v.items) meets.kept ∙ is.kept in
     let one : walk.kept.items ≡ lit ∷ [] = new.kept ∙ ap (λ (ks : List ℕ). ks ++ lit ∷ []) none in
     let why : IsReason (true_in (take position entries)) meets.met.clause entry.lit = subst (λ (c : List ℕ). IsReason (true_in (take position entries)) c entry.lit) (met_clause stored reason meets.met meets.within meets.there) has.why in
     let variable : variable_of lit ≡ variable_of entry.lit = sym (ap variable_of of_literal ∙ variable_of-negation lit) in (
-      begin_walk stored entries position reason (position + 1) fresh met walk is (omega (arith, at.0)) meets (assigned_reason entries position entry meets.met.clause at why)
+      begin_walk stored entries positions table position reason (position + 1) fresh met walk is (omega (arith, at.0)) meets (assigned_reason entries position entry meets.met.clause at why)
           (λ l holds. elim (cases_eq l entry.lit) [
             | inl same ↦ inr (subst (λ (ks : List ℕ). Contains ks (negation l)) (sym one) (0, omega arith, sym (ap negation (same ∙ of_literal) ∙ negation-negation lit)))
             | inr differ ↦ inl (All-contains (λ m. (m ≡ entry.lit → ⊥) → true_in (take position entries) (negation m) ≡ true) meets.met.clause l why.others holds differ)
           ])
           (λ m holds.
           let same : m ≡ lit = only_one walk.kept.items lit m one holds in (
-            none_before entries fresh.marks.positions.items position entry m is.marks.positions at (ap variable_of same ∙ variable),
-            none_before entries fresh.marks.positions.items position entry (negation m) is.marks.positions at (variable_of-negation m ∙ ap variable_of same ∙ variable),
+            none_before entries positions position entry m table at (ap variable_of same ∙ variable),
+            none_before entries positions position entry (negation m) table at (variable_of-negation m ∙ ap variable_of same ∙ variable),
           ))
           (few_own walk.kept.items (omega (arith, ap length one))) new.marks new.hints,
       one,
@@ -97,8 +97,8 @@ pub record HasFinal (stored : List Stored) (entries : List Assigned) (lit positi
   pub more : KeepsMore entries Decisions position begun.kept.items suffix
   pub left : IsLeft suffix learnt
 
-pub final_is : (stored : List Stored) (entries : List Assigned) (lit position : ℕ) (entry : Assigned) (reason : ℕ) (begun suffix : Walk) (learnt : Learnt) → HasFinal stored entries lit position entry reason begun suffix learnt → IsFinal stored entries lit learnt
-final_is stored entries lit position entry reason begun suffix learnt final = record {
+pub final_is : (stored : List Stored) (entries : List Assigned) (positions : List ℕ) (table : HasPositions entries positions) (lit position : ℕ) (entry : Assigned) (reason : ℕ) (begun suffix : Walk) (learnt : Learnt) → HasFinal stored entries lit position entry reason begun suffix learnt → IsFinal stored entries lit learnt
+final_is stored entries positions table lit position entry reason begun suffix learnt final = record {
   holds = clause_holds suffix.kept.items learnt.clause lit final.left.clause (final.more.stay lit (subst (λ (ks : List ℕ). Contains ks lit) (sym final.kept) (0, omega arith, refl)));
   decisions = λ other holds differ.
       let kept = other_kept other holds differ in
@@ -106,7 +106,7 @@ final_is stored entries lit position entry reason begun suffix learnt final = re
   back = record {
     within = λ other at holds differ there.
         let kept = other_kept other holds differ in
-        let level : kept.entry.level ≡ at = level_of entries suffix.marks.positions.items kept.position kept.entry (negation other) at final.walk.marks.positions kept.stands kept.of_literal there in
+        let level : kept.entry.level ≡ at = level_of entries positions kept.position kept.entry (negation other) at table kept.stands kept.of_literal there in
         let low = kept.low in
         let left : learnt.level ≡ suffix.level = final.left.level in
         omega arith;
@@ -119,7 +119,7 @@ final_is stored entries lit position entry reason begun suffix learnt final = re
           (λ same.
               let one : m ≡ lit = sym (negation-negation m) ∙ ap negation same ∙ negation-negation lit in
               let variable : variable_of old.2.entry.lit ≡ variable_of entry.lit = ap variable_of (old.2.of_literal ∙ one) ∙ sym (ap variable_of final.of_literal ∙ variable_of-negation lit) in
-              let there = one_entry entries suffix.marks.positions.items old.2.position position old.2.entry entry final.walk.marks.positions old.2.stands final.stands variable in
+              let there = one_entry entries positions old.2.position position old.2.entry entry table old.2.stands final.stands variable in
               let before = old.2.before in
               omega (arith, there.0)),
           subst (λ (n : ℕ). IsTrueAt entries n learnt.level) (sym (negation-negation m))

@@ -16,12 +16,12 @@ use Rattle.sat_arena.specs.Stored.{Stored}
 use Rattle.sat_arena.specs.ArenaState.{clauses_of}
 use Rattle.sat_arena.specs.Trails.{true_in}
 use Rattle.sat_arena.specs.Deduced.{IsConflict}
-use Rattle.sat_arena.specs.Justified.{IsEntryAt, IsTrueAt}
+use Rattle.sat_arena.specs.Justified.{IsEntryAt, IsTrueAt, HasPositions}
 use Rattle.sat_analyze.specs.declared.walk.Walk.{Walk}
 use Rattle.sat_analyze.specs.declared.learnt.Learnt.{Learnt}
 use Rattle.sat_analyze.specs.Derived.{IsRupStepOver}
 use Rattle.sat_analyze.specs.Marked.{IsMarked, ArePositioned}
-use Rattle.sat_analyze.specs.Walked.{HasPositions, IsStart, RefutesFrom, IsLate, AreMarks, HaveOwnVariables, IsFresh, IsWalk, Meets}
+use Rattle.sat_analyze.specs.Walked.{IsStart, RefutesFrom, IsLate, AreMarks, HaveOwnVariables, IsFresh, IsWalk, Meets}
 use Rattle.sat_analyze.specs.Learnt.{IsLeft}
 use Rattle.sat_analyze.proofs.BeforeLemmas.{IsAssigned, assigned_from_true_in}
 use Rattle.sat_analyze.proofs.PositionLemmas.{one_at}
@@ -82,17 +82,17 @@ level_of entries positions i e m level has at is there =
 
 -- ---- What a walk began with
 
-pub begin_walk : (stored : List Stored) (entries : List Assigned) (position at top : ℕ) (fresh met walk : Walk) → IsFresh entries fresh → position ≤ length entries → (meets : Meets stored at fresh met)
+pub begin_walk : (stored : List Stored) (entries : List Assigned) (positions : List ℕ) (table : HasPositions entries positions) (position at top : ℕ) (fresh met walk : Walk) → IsFresh entries fresh → position ≤ length entries → (meets : Meets stored positions at fresh met)
     → ((l : ℕ) → Contains meets.met.clause l → IsAssigned entries top l)
     → ((l : ℕ) → Contains meets.met.clause l → (true_in (take position entries) (negation l) ≡ true) ⊎ Contains walk.kept.items (negation l))
     → IsLate entries position walk.kept.items → HaveOwnVariables walk.kept.items
     → walk.marks ≡ met.marks → walk.hints ≡ met.hints → IsWalk stored entries position walk
-begin_walk stored entries position at top fresh met walk is within meets assigned false_there late apart marks hints =
-    let of = marks_of stored entries at top fresh met is.marks meets assigned in
+begin_walk stored entries positions table position at top fresh met walk is within meets assigned false_there late apart marks hints =
+    let of = marks_of stored entries positions table at top fresh met is.marks meets assigned in
     let hint : walk.hints.items ≡ meets.met.id ∷ [] = ap (λ v. v.items) hints ∙ meets.hints ∙ ap (λ hs. hs ++ meets.met.id ∷ []) is.hints in
     record {
       within = within;
-      marks = subst (AreMarks entries) (sym marks) (AreMarks-met stored entries at fresh met is.marks meets);
+      marks = subst (AreMarks entries) (sym marks) (AreMarks-met stored entries positions table at fresh met is.marks meets);
       listed = λ i e there marked. listed_met stored entries at top meets.met fresh.marks.seen.items met.marks.seen.items meets.within meets.there
           (λ j f here old. absurd (is.unmarked j old)) of i e there (subst (λ ms. IsMarked ms.seen.items i) marks marked);
       late = late;
@@ -114,15 +114,15 @@ assigned_conflict entries clause falsified l holds =
     assigned_from_true_in entries (length entries) l
     (ap (λ es. true_in es (negation l)) (take_all (length entries) entries (omega arith)) ∙ All-contains (λ m. true_in entries (negation m) ≡ true) clause l falsified holds)
 
-pub conflict_positions : (stored : List Stored) (entries : List Assigned) (conflict : ℕ) (fresh : Walk) → IsFresh entries fresh → IsConflict (clauses_of stored) entries conflict → ArePositioned fresh.marks.positions.items (length fresh.marks.seen.items) (get_or (clauses_of stored) conflict [])
-conflict_positions stored entries conflict fresh is met =
-    have_positions entries fresh.marks (length entries) (get_or (clauses_of stored) conflict []) is.marks (assigned_conflict entries (get_or (clauses_of stored) conflict []) met.1)
+pub conflict_positions : (stored : List Stored) (entries : List Assigned) (positions : List ℕ) (table : HasPositions entries positions) (conflict : ℕ) (fresh : Walk) → IsFresh entries fresh → IsConflict (clauses_of stored) entries conflict → ArePositioned positions (length fresh.marks.seen.items) (get_or (clauses_of stored) conflict [])
+conflict_positions stored entries positions table conflict fresh is met =
+    have_positions entries positions table fresh.marks (length entries) (get_or (clauses_of stored) conflict []) is.marks (assigned_conflict entries (get_or (clauses_of stored) conflict []) met.1)
 
-pub begin_learning : (stored : List Stored) (entries : List Assigned) (conflict : ℕ) (fresh walk : Walk) → IsFresh entries fresh → IsConflict (clauses_of stored) entries conflict → Meets stored conflict fresh walk → IsWalk stored entries (length entries) walk × (walk.kept.items ≡ []) × IsStart entries walk.marks.start × (walk.level ≡ 0)
-begin_learning stored entries conflict fresh walk is against meets =
+pub begin_learning : (stored : List Stored) (entries : List Assigned) (positions : List ℕ) (table : HasPositions entries positions) (conflict : ℕ) (fresh walk : Walk) → IsFresh entries fresh → IsConflict (clauses_of stored) entries conflict → Meets stored positions conflict fresh walk → IsWalk stored entries (length entries) walk × (walk.kept.items ≡ []) × IsStart entries walk.marks.start × (walk.level ≡ 0)
+begin_learning stored entries positions table conflict fresh walk is against meets =
     let none : walk.kept.items ≡ [] = ap (λ v. v.items) meets.kept ∙ is.kept in
     let falsified : IsFalsified (true_in entries) meets.met.clause = subst (IsFalsified (true_in entries)) (met_clause stored conflict meets.met meets.within meets.there) against.1 in (
-      begin_walk stored entries (length entries) conflict (length entries) fresh walk walk is (omega arith) meets (assigned_conflict entries meets.met.clause falsified)
+      begin_walk stored entries positions table (length entries) conflict (length entries) fresh walk walk is (omega arith) meets (assigned_conflict entries meets.met.clause falsified)
           (λ l holds. inl (ap (λ es. true_in es (negation l)) (take_all (length entries) entries (omega arith)) ∙ All-contains (λ m. true_in entries (negation m) ≡ true) meets.met.clause l falsified holds))
           (none_late entries (length entries) walk.kept.items none) (few_own walk.kept.items (omega (arith, ap length none))) refl refl,
       none,

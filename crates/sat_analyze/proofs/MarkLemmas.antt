@@ -1,8 +1,9 @@
 -- Marks, one more at a time.
-use Rattle.std.proofs.Common.{◌≡◌, ◌↔◌, ◌⊎◌, ℕ, ◌+◌, ◌<◌, ◌≤◌, Bool, true, false, List, ◌∷◌, ◌++◌, [], length, set, get_or, take, min, arith, inl, inr, sym, ◌∙◌, ap, subst}
+use Rattle.std.proofs.Common.{◌≡◌, ◌↔◌, ◌⊎◌, ℕ, ◌-◌, drop, ◌+◌, ◌<◌, ◌≤◌, Bool, true, false, List, ◌∷◌, ◌++◌, [], length, set, get_or, take, min, arith, inl, inr, sym, ◌∙◌, ap, subst}
 use Rattle.std.specs.Prelude.{Contains}
 use Rattle.std.proofs.lemmas.Bool.{cases_eq, both_ways}
-use Rattle.std.proofs.lemmas.List.{get_or-set_same, get_or-set_other, length-set, take_more, get_or_default}
+use Rattle.std.specs.List.{slice_range}
+use Rattle.std.proofs.lemmas.List.{get_or-take, get_or-drop, get_or-set_same, get_or-set_other, length-set, take_more, get_or_default}
 use Rattle.std.proofs.lemmas.List.Elements.{Contains-push, Contains-push_cases, Contains-append_left}
 use Rattle.sat_lits.specs.Literals.{variable_of}
 use Rattle.sat_analyze.specs.Marked.{IsMarked, IsPositionOf, IsLowest}
@@ -89,3 +90,13 @@ marked_read seen p read within is true_there = get_or_default seen p false read 
 
 pub unmarked_read : (seen : List Bool) (p : ℕ) (read : Bool) → p < length seen → read ≡ get_or seen p read → read ≡ false → IsMarked seen p → ⊥
 unmarked_read seen p read within is false_there marked = both_ways read false_there (is ∙ get_or_default seen p read false within ∙ marked)
+
+-- where a block has no mark, none of its positions has one
+pub unmarked_block : (seen read : List Bool) (from to i : ℕ) → read ≡ seen → ((k : ℕ) → IsMarked (slice_range read from to) k → ⊥) → from ≤ i → i < to → IsMarked seen i → ⊥
+unmarked_block seen read from to i same none low high marked =
+    none (i - from)
+    (get_or-take (to - from) (drop from read) (i - from) false (omega arith)
+    ∙ get_or-drop from read (i - from) false
+    ∙ ap (λ k. get_or read k false) (omega arith)
+    ∙ ap (λ fs. get_or fs i false) same
+    ∙ marked)

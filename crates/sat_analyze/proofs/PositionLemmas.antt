@@ -12,30 +12,6 @@ pub one_at : (entries : List Assigned) (i j : ℕ) (e f : Assigned) → IsEntryA
 one_at entries i j e f at there same =
     sym at.1 ∙ ap (λ k. get_or entries k e) same ∙ get_or_default entries j e f there.0 ∙ there.1
 
--- ---- The table of positions
-
--- the table tells where the first entries stand
-pub record ArePlaced (entries : List Assigned) (positions : List ℕ) (top : ℕ) : Type 0 where
-  pub positioned : (i : ℕ) (e : Assigned) → IsEntryAt entries i e → i < top → (variable_of e.lit < length positions) × (get_or positions (variable_of e.lit) 0 ≡ i)
-
-pub ArePlaced-more : (entries : List Assigned) (positions : List ℕ) (top v : ℕ) (here : Assigned) → AllPairs (λ e f. variable_of e.lit ≢ variable_of f.lit) entries → IsEntryAt entries top here → v ≡ variable_of here.lit → v < length positions → ArePlaced entries positions top → ArePlaced entries (set positions v top) (top + 1)
-ArePlaced-more entries positions top v here apart at own room before = record {
-  positioned = λ i e there low.
-      let long : length (set positions v top) ≡ length positions = length-set positions v top in
-      elim (cases_eq i top) [
-        | inl same ↦
-            let variable : variable_of e.lit ≡ v = ap (λ (f : Assigned). variable_of f.lit) (one_at entries i top e here there at same) ∙ sym own in
-            (omega arith, ap (λ n. get_or (set positions v top) n 0) variable ∙ get_or-set_same positions v top 0 room ∙ sym same)
-        | inr differ ↦
-            let below : i < top = omega arith in
-            let old = before.positioned i e there below in
-            let first : get_or entries i here ≡ e = get_or_default entries i here e there.0 ∙ there.1 in
-            let two : variable_of (get_or entries i here).lit ≢ variable_of (get_or entries top here).lit = apart i top here below at.0 in
-            let others : variable_of e.lit ≢ v = λ same. two (ap (λ (f : Assigned). variable_of f.lit) first ∙ same ∙ own ∙ sym (ap (λ (f : Assigned). variable_of f.lit) at.1)) in
-            (omega (arith, old.0), get_or-set_other positions v (variable_of e.lit) top 0 others ∙ old.1)
-      ];
-}
-
 -- ---- The current_level level
 
 pub current_level-is : (entries : List Assigned) (d : Assigned) → 0 < length entries → current_level entries ≡ (get_or entries (length entries - 1) d).level

@@ -10,9 +10,9 @@ use Rattle.sat_lits.specs.Steps.{named, with, Forces, Refutes}
 use Rattle.sat_arena.specs.declared.trail.Assigned.{Assigned}
 use Rattle.sat_arena.specs.Stored.{Stored}
 use Rattle.sat_arena.specs.Trails.{true_in}
-use Rattle.sat_arena.specs.Justified.{IsEntryAt, IsReason}
+use Rattle.sat_arena.specs.Justified.{IsEntryAt, IsReason, HasPositions}
 use Rattle.sat_analyze.specs.Marked.{IsMarked}
-use Rattle.sat_analyze.specs.Walked.{HasPositions, Fits, RefutesFrom, IsLate}
+use Rattle.sat_analyze.specs.Walked.{Fits, RefutesFrom, IsLate}
 use Rattle.sat_analyze.proofs.BeforeLemmas.{before_from_true_in, true_in_later, not_true_in_earlier, true_in_here, none_before, variable_of-negation}
 use Rattle.sat_analyze.proofs.PositionLemmas.{one_at}
 use Rattle.sat_analyze.proofs.ClauseLemmas.{negation-negation}

@@ -1,5 +1,5 @@
 -- A walk, from one position to the one before.
-use Rattle.std.proofs.Common.{◌≡◌, ◌≢◌, ◌⊎◌, ℕ, ◌+◌, ◌<◌, ◌≤◌, Bool, true, List, [], ◌∷◌, ◌++◌, Option, Some, None, length, map, min, get_or, take, arith, inl, inr, sym, ◌∙◌, ap, subst, refl}
+use Rattle.std.proofs.Common.{◌≡◌, ◌≢◌, ◌⊎◌, ℕ, ◌+◌, ◌<◌, ◌≤◌, Bool, true, List, [], ◌∷◌, ◌++◌, Option, Some, None, length, map, min, get_or, take, arith, inl, inr, sym, ◌∙◌, ap, subst, refl, zero, suc}
 use Rattle.std.specs.Prelude.{Contains, IfSome}
 use Rattle.std.specs.List.{AllPairs}
 use Rattle.std.proofs.lemmas.Bool.{cases_eq, cases_lt, both_ways}
@@ -12,7 +12,7 @@ use Rattle.sat_arena.specs.declared.trail.Assigned.{Assigned}
 use Rattle.sat_arena.specs.Stored.{Stored}
 use Rattle.sat_arena.specs.ArenaState.{clauses_of}
 use Rattle.sat_arena.specs.Trails.{true_in}
-use Rattle.sat_arena.specs.Justified.{current_level, IsEntryAt, IsReason, BeginsLevel, IsJustified}
+use Rattle.sat_arena.specs.Justified.{current_level, IsEntryAt, IsReason, BeginsLevel, IsJustified, HasPositions}
 use Rattle.sat_arena.proofs.DeducedLemmas.{clause_at}
 use Rattle.sat_analyze.specs.declared.walk.Walk.{Walk}
 use Rattle.sat_analyze.specs.declared.walk.Keeping.{Keeping}
@@ -35,15 +35,15 @@ pub few_clauses : (stored : List Stored) (position : ℕ) → position < length 
 few_clauses stored position within = let same : length (clauses_of stored) ≡ length stored = length-map stored (λ s. s.clause) in omega arith
 
 -- each literal of an assigned clause has its position in the table
-pub have_positions : (entries : List Assigned) (marks : Marks) (top : ℕ) (clause : List ℕ) → AreMarks entries marks → ((l : ℕ) → Contains clause l → IsAssigned entries top l) → ArePositioned marks.positions.items (length marks.seen.items) clause
-have_positions entries marks top clause are assigned k d within =
+pub have_positions : (entries : List Assigned) (positions : List ℕ) (table : HasPositions entries positions) (marks : Marks) (top : ℕ) (clause : List ℕ) → AreMarks entries marks → ((l : ℕ) → Contains clause l → IsAssigned entries top l) → ArePositioned positions (length marks.seen.items) clause
+have_positions entries positions table marks top clause are assigned k d within =
     let l = get_or clause k d in
     let entry = assigned l (Contains-get_or clause k d within) in
-    let has = are.positions entry.at entry.entry entry.stands in
+    let has = table entry.at entry.entry entry.stands in
     let inside : entry.at < length entries = entry.stands.0 in
     let sized : length marks.seen.items ≡ length entries = are.sized in
-    let there : get_or marks.positions.items (variable_of l) 0 ≡ entry.at = ap (λ v. get_or marks.positions.items v 0) (sym entry.of_variable) ∙ has.1 in
-    (subst (λ (v : ℕ). v < length marks.positions.items) entry.of_variable has.0, omega arith)
+    let there : get_or positions (variable_of l) 0 ≡ entry.at = ap (λ v. get_or positions v 0) (sym entry.of_variable) ∙ has.1 in
+    (subst (λ (v : ℕ). v < length positions) entry.of_variable has.0, omega arith)
 
 -- the position of a literal of the met clause is that of the entry of its variable
 pub record MarksOf (entries : List Assigned) (top : ℕ) (clause : List ℕ) (seen flags' : List Bool) : Type 0 where
@@ -51,20 +51,20 @@ pub record MarksOf (entries : List Assigned) (top : ℕ) (clause : List ℕ) (se
   pub others : (l j : ℕ) (e : Assigned) → Contains clause l → IsEntryAt entries j e → variable_of e.lit ≡ variable_of l → IsMarked flags' j
   pub only : (i : ℕ) → IsMarked flags' i → IsMarked seen i ⊎ ((l : ℕ) × Contains clause l × (i < top) × ((e : Assigned) → IsEntryAt entries i e → variable_of e.lit ≡ variable_of l))
 
-pub marks_of : (stored : List Stored) (entries : List Assigned) (position top : ℕ) (before after : Walk) → AreMarks entries before.marks → (meets : Meets stored position before after) → ((l : ℕ) → Contains meets.met.clause l → IsAssigned entries top l) → MarksOf entries top meets.met.clause before.marks.seen.items after.marks.seen.items
-marks_of stored entries position top before after are meets assigned = record {
+pub marks_of : (stored : List Stored) (entries : List Assigned) (positions : List ℕ) (table : HasPositions entries positions) (position top : ℕ) (before after : Walk) → AreMarks entries before.marks → (meets : Meets stored positions position before after) → ((l : ℕ) → Contains meets.met.clause l → IsAssigned entries top l) → MarksOf entries top meets.met.clause before.marks.seen.items after.marks.seen.items
+marks_of stored entries positions table position top before after are meets assigned = record {
   more = λ i marked. (meets.exact i).1 (inl marked);
   others = λ l j e holds at same. (meets.exact j).1 (inr (record {
     literal = l;
     holds = holds;
-    there = ap (λ v. get_or before.marks.positions.items v 0) (sym same) ∙ (are.positions j e at).1;
+    there = ap (λ v. get_or positions v 0) (sym same) ∙ (table j e at).1;
   }));
   only = λ i marked. elim ((meets.exact i).0 marked) [
     | inl old ↦ inl old
     | inr here ↦
         let entry = assigned here.literal here.holds in
-        let has = are.positions entry.at entry.entry entry.stands in
-        let same : i ≡ entry.at = sym here.there ∙ ap (λ v. get_or before.marks.positions.items v 0) (sym entry.of_variable) ∙ has.1 in
+        let has = table entry.at entry.entry entry.stands in
+        let same : i ≡ entry.at = sym here.there ∙ ap (λ v. get_or positions v 0) (sym entry.of_variable) ∙ has.1 in
         inr (
           here.literal,
           here.holds,
@@ -74,10 +74,9 @@ marks_of stored entries position top before after are meets assigned = record {
   ];
 }
 
-pub AreMarks-met : (stored : List Stored) (entries : List Assigned) (position : ℕ) (before after : Walk) → AreMarks entries before.marks → Meets stored position before after → AreMarks entries after.marks
-AreMarks-met stored entries position before after are meets = record {
+pub AreMarks-met : (stored : List Stored) (entries : List Assigned) (positions : List ℕ) (table : HasPositions entries positions) (position : ℕ) (before after : Walk) → AreMarks entries before.marks → Meets stored positions position before after → AreMarks entries after.marks
+AreMarks-met stored entries positions table position before after are meets = record {
   sized = meets.sized ∙ are.sized;
-  positions = λ i e at. subst (λ (ps : List ℕ). (variable_of e.lit < length ps) × (get_or ps (variable_of e.lit) 0 ≡ i)) (sym (ap (λ v. v.items) meets.positions)) (are.positions i e at);
   lowest = meets.lowest;
 }
 
@@ -109,6 +108,21 @@ IsWalk-skip stored entries i here walk at unmarked is = record {
   refutes = RefutesFrom-skip stored entries i here walk.marks.seen.items walk.kept.items walk.hints.items at unmarked is.refutes;
 }
 
+-- positions that are not marked are stepped over at once
+pub IsWalk-skips : (stored : List Stored) (entries : List Assigned) (from to : ℕ) (walk : Walk) → to ≤ from → ((i : ℕ) → to ≤ i → i < from → IsMarked walk.marks.seen.items i → ⊥) → IsWalk stored entries from walk → IsWalk stored entries to walk
+IsWalk-skips stored entries zero to walk low unmarked is = subst (λ (n : ℕ). IsWalk stored entries n walk) (omega arith) is
+IsWalk-skips stored entries (suc k) to walk low unmarked is = elim (cases_eq to (suc k)) [
+  | inl same ↦ subst (λ (n : ℕ). IsWalk stored entries n walk) (sym same) is
+  | inr differ ↦
+      let next : suc k ≡ k + 1 = omega arith in
+      let within : k < length entries = omega (arith, is.within) in
+      let other : Assigned = record { lit = 0; level = 0; reason = None } in
+      let here : Assigned = get_or entries k other in
+      IsWalk-skips stored entries k to walk (omega arith) (λ i from before. unmarked i from (omega arith))
+      (IsWalk-skip stored entries k here walk (within, get_or_default entries k here other within) (unmarked k (omega arith) (omega arith))
+      (subst (λ (n : ℕ). IsWalk stored entries n walk) next is))
+]
+
 -- what a reason's clause has for a reason
 pub record HasReason (stored : List Stored) (entries : List Assigned) (i : ℕ) (here : Assigned) (reason : ℕ) : Type 0 where
   pub within : reason < length stored
@@ -119,29 +133,29 @@ has_reason stored entries i here reason justified at is =
     let both = justified.reasons i reason here at is in
     record { within = few_clauses stored reason both.0; why = both.1 }
 
-pub reason_positions : (stored : List Stored) (entries : List Assigned) (i : ℕ) (here : Assigned) (reason : ℕ) (marks : Marks) → AreMarks entries marks → IsEntryAt entries i here → HasReason stored entries i here reason → ArePositioned marks.positions.items (length marks.seen.items) (get_or (clauses_of stored) reason [])
-reason_positions stored entries i here reason marks are at has = have_positions entries marks (i + 1) (get_or (clauses_of stored) reason []) are (assigned_reason entries i here (get_or (clauses_of stored) reason []) at has.why)
+pub reason_positions : (stored : List Stored) (entries : List Assigned) (positions : List ℕ) (table : HasPositions entries positions) (i : ℕ) (here : Assigned) (reason : ℕ) (marks : Marks) → AreMarks entries marks → IsEntryAt entries i here → HasReason stored entries i here reason → ArePositioned positions (length marks.seen.items) (get_or (clauses_of stored) reason [])
+reason_positions stored entries positions table i here reason marks are at has = have_positions entries positions table marks (i + 1) (get_or (clauses_of stored) reason []) are (assigned_reason entries i here (get_or (clauses_of stored) reason []) at has.why)
 
-pub reason_marks : (stored : List Stored) (entries : List Assigned) (i : ℕ) (here : Assigned) (reason : ℕ) (before after : Walk) → AreMarks entries before.marks → IsEntryAt entries i here → HasReason stored entries i here reason → (meets : Meets stored reason before after) → MarksOf entries (i + 1) meets.met.clause before.marks.seen.items after.marks.seen.items
-reason_marks stored entries i here reason before after are at has meets =
-    marks_of stored entries reason (i + 1) before after are meets
+pub reason_marks : (stored : List Stored) (entries : List Assigned) (positions : List ℕ) (table : HasPositions entries positions) (i : ℕ) (here : Assigned) (reason : ℕ) (before after : Walk) → AreMarks entries before.marks → IsEntryAt entries i here → HasReason stored entries i here reason → (meets : Meets stored positions reason before after) → MarksOf entries (i + 1) meets.met.clause before.marks.seen.items after.marks.seen.items
+reason_marks stored entries positions table i here reason before after are at has meets =
+    marks_of stored entries positions table reason (i + 1) before after are meets
     (assigned_reason entries i here meets.met.clause at (subst (λ (c : List ℕ). IsReason (true_in (take i entries)) c here.lit) (met_clause stored reason meets.met meets.within meets.there) has.why))
 
-pub IsWalk-resolve : (stored : List Stored) (entries : List Assigned) (i : ℕ) (here : Assigned) (reason : ℕ) (before after : Walk) → IsEntryAt entries i here → HasReason stored entries i here reason → IsWalk stored entries (i + 1) before → Meets stored reason before after → IsWalk stored entries i after
-IsWalk-resolve stored entries i here reason before after at has is meets =
-    let of = reason_marks stored entries i here reason before after is.marks at has meets in
+pub IsWalk-resolve : (stored : List Stored) (entries : List Assigned) (positions : List ℕ) (table : HasPositions entries positions) (i : ℕ) (here : Assigned) (reason : ℕ) (before after : Walk) → IsEntryAt entries i here → HasReason stored entries i here reason → IsWalk stored entries (i + 1) before → Meets stored positions reason before after → IsWalk stored entries i after
+IsWalk-resolve stored entries positions table i here reason before after at has is meets =
+    let of = reason_marks stored entries positions table i here reason before after is.marks at has meets in
     let why = subst (λ (c : List ℕ). IsReason (true_in (take i entries)) c here.lit) (met_clause stored reason meets.met meets.within meets.there) has.why in
     let kept : after.kept.items ≡ before.kept.items = ap (λ v. v.items) meets.kept in
     record {
       within = (let within = is.within in omega arith);
-      marks = AreMarks-met stored entries reason before after is.marks meets;
+      marks = AreMarks-met stored entries positions table reason before after is.marks meets;
       listed = listed_met stored entries reason (i + 1) meets.met before.marks.seen.items after.marks.seen.items meets.within meets.there is.listed of;
       late = subst (IsLate entries i) (sym kept) (IsLate-next entries i before.kept.items is.late);
       apart = subst HaveOwnVariables (sym kept) is.apart;
       refutes = subst (λ (ks : List ℕ). RefutesFrom stored entries i after.marks.seen.items ks after.hints.items) (sym kept)
           (subst (λ (hs : List Id). RefutesFrom stored entries i after.marks.seen.items before.kept.items hs) (sym meets.hints)
-          (RefutesFrom-resolve stored entries before.marks.positions.items i here before.marks.seen.items after.marks.seen.items before.kept.items before.hints.items meets.met
-          is.marks.positions at is.late (reason, meets.within, meets.there) why of.more of.others is.refutes));
+          (RefutesFrom-resolve stored entries positions i here before.marks.seen.items after.marks.seen.items before.kept.items before.hints.items meets.met
+          table at is.late (reason, meets.within, meets.there) why of.more of.others is.refutes));
     }
 
 same_variable : (a b : ℕ) → variable_of a ≡ variable_of b → (a ≡ b → ⊥) → (a ≡ negation b → ⊥) → ⊥
@@ -161,12 +175,12 @@ HaveOwnVariables-push entries i here kept at late own =
     (λ other. both_ways (true_in (take (i + 1) entries) (negation m)) (late m holds).1 (subst (λ (n : ℕ). true_in (take (i + 1) entries) n ≡ true) other (true_in_here entries i here at)))))
 
 -- the same marks, and one more kept literal
-pub IsWalk-keep : (stored : List Stored) (entries : List Assigned) (i : ℕ) (here : Assigned) (before after : Walk) → IsEntryAt entries i here → IsWalk stored entries (i + 1) before → after.marks ≡ before.marks → after.hints ≡ before.hints → after.kept.items ≡ before.kept.items ++ here.lit ∷ [] → IsWalk stored entries i after
-IsWalk-keep stored entries i here before after at is marks hints kept = record {
+pub IsWalk-keep : (stored : List Stored) (entries : List Assigned) (positions : List ℕ) (table : HasPositions entries positions) (i : ℕ) (here : Assigned) (before after : Walk) → IsEntryAt entries i here → IsWalk stored entries (i + 1) before → after.marks ≡ before.marks → after.hints ≡ before.hints → after.kept.items ≡ before.kept.items ++ here.lit ∷ [] → IsWalk stored entries i after
+IsWalk-keep stored entries positions table i here before after at is marks hints kept = record {
   within = (let within = is.within in omega arith);
   marks = subst (AreMarks entries) (sym marks) is.marks;
   listed = subst (λ (ms : Marks). (j : ℕ) (e : Assigned) → IsEntryAt entries j e → IsMarked ms.seen.items j → HasVariable (clauses_of stored) (variable_of e.lit)) (sym marks) is.listed;
-  late = subst (IsLate entries i) (sym kept) (IsLate-keep entries before.marks.positions.items i here before.kept.items is.marks.positions at is.late);
+  late = subst (IsLate entries i) (sym kept) (IsLate-keep entries positions i here before.kept.items table at is.late);
   apart = subst HaveOwnVariables (sym kept) (HaveOwnVariables-push entries i here before.kept.items at is.late is.apart);
   refutes = subst (λ (ms : Marks). RefutesFrom stored entries i ms.seen.items after.kept.items after.hints.items) (sym marks)
       (subst (λ (ks : List ℕ). RefutesFrom stored entries i before.marks.seen.items ks after.hints.items) (sym kept)
@@ -256,9 +270,9 @@ KeepsMore-kept entries keeping from kept i here before after at low marked above
 
 -- ---- Steps
 
-pub Resolves-met : (stored : List Stored) (entries : List Assigned) (i : ℕ) (here : Assigned) (reason : ℕ) (before after : Walk) → IsEntryAt entries i here → HasReason stored entries i here reason → IsWalk stored entries (i + 1) before → Meets stored reason before after → Resolves stored entries i before after
-Resolves-met stored entries i here reason before after at has is meets = record {
-  walk = IsWalk-resolve stored entries i here reason before after at has is meets;
+pub Resolves-met : (stored : List Stored) (entries : List Assigned) (positions : List ℕ) (table : HasPositions entries positions) (i : ℕ) (here : Assigned) (reason : ℕ) (before after : Walk) → IsEntryAt entries i here → HasReason stored entries i here reason → IsWalk stored entries (i + 1) before → Meets stored positions reason before after → Resolves stored entries i before after
+Resolves-met stored entries positions table i here reason before after at has is meets = record {
+  walk = IsWalk-resolve stored entries positions table i here reason before after at has is meets;
   kept = meets.kept;
   level = meets.level;
   start = meets.start;
@@ -266,7 +280,7 @@ Resolves-met stored entries i here reason before after at has is meets = record 
       let sized : length before.marks.seen.items ≡ length entries = is.marks.sized in
       lowest_lower before.marks.seen.items after.marks.seen.items before.marks.start before.marks.lowest after.marks.lowest is.marks.lowest
       (subst (λ (n : ℕ). IsLowest after.marks.seen.items n after.marks.lowest) meets.start meets.lowest)
-      (reason_marks stored entries i here reason before after is.marks at has meets).more (omega arith);
+      (reason_marks stored entries positions table i here reason before after is.marks at has meets).more (omega arith);
 }
 
 pub Resolves-skip : (stored : List Stored) (entries : List Assigned) (i : ℕ) (here : Assigned) (walk : Walk) → IsEntryAt entries i here → (IsMarked walk.marks.seen.items i → ⊥) → IsWalk stored entries (i + 1) walk → Resolves stored entries i walk walk
@@ -286,11 +300,11 @@ Steps-skip stored entries i here keeping walk at unmarked is = record {
   start = refl;
 }
 
-pub Steps-met : (stored : List Stored) (entries : List Assigned) (i : ℕ) (here : Assigned) (keeping : Keeping) (reason : ℕ) (before after : Walk) → IsEntryAt entries i here → HasReason stored entries i here reason → IsMarked before.marks.seen.items i → IsWalk stored entries (i + 1) before → Meets stored reason before after → Steps stored entries i keeping before after
-Steps-met stored entries i here keeping reason before after at has marked is meets =
-    let of = reason_marks stored entries i here reason before after is.marks at has meets in
+pub Steps-met : (stored : List Stored) (entries : List Assigned) (positions : List ℕ) (table : HasPositions entries positions) (i : ℕ) (here : Assigned) (keeping : Keeping) (reason : ℕ) (before after : Walk) → IsEntryAt entries i here → HasReason stored entries i here reason → IsMarked before.marks.seen.items i → IsWalk stored entries (i + 1) before → Meets stored positions reason before after → Steps stored entries i keeping before after
+Steps-met stored entries positions table i here keeping reason before after at has marked is meets =
+    let of = reason_marks stored entries positions table i here reason before after is.marks at has meets in
     record {
-      walk = IsWalk-resolve stored entries i here reason before after at has is meets;
+      walk = IsWalk-resolve stored entries positions table i here reason before after at has is meets;
       more = λ from kept low keeps. KeepsMore-resolved entries keeping from kept before after meets.kept meets.level of.more keeps;
       apart = λ from low apart.
           lowest_apart before.marks.seen.items after.marks.seen.items before.marks.start before.marks.lowest after.marks.lowest i from is.marks.lowest
@@ -299,14 +313,14 @@ Steps-met stored entries i here keeping reason before after at has marked is mee
       start = meets.start;
     }
 
-pub Steps-kept : (stored : List Stored) (entries : List Assigned) (i : ℕ) (here : Assigned) (keeping : Keeping) (before after : Walk) → IsJustified (clauses_of stored) entries → IsEntryAt entries i here → IsMarked before.marks.seen.items i → (keeping ≡ Decisions → here.reason ≡ None) → (here.level ≡ 0 → here.reason ≡ None) → IsWalk stored entries (i + 1) before → Keeps here before after → Steps stored entries i keeping before after
-Steps-kept stored entries i here keeping before after justified at marked decided root is new =
+pub Steps-kept : (stored : List Stored) (entries : List Assigned) (positions : List ℕ) (table : HasPositions entries positions) (i : ℕ) (here : Assigned) (keeping : Keeping) (before after : Walk) → IsJustified (clauses_of stored) entries → IsEntryAt entries i here → IsMarked before.marks.seen.items i → (keeping ≡ Decisions → here.reason ≡ None) → (here.level ≡ 0 → here.reason ≡ None) → IsWalk stored entries (i + 1) before → Keeps here before after → Steps stored entries i keeping before after
+Steps-kept stored entries positions table i here keeping before after justified at marked decided root is new =
     let above : 0 < here.level = elim (cases_eq here.level 0) [
       | inl zero_level ↦ ((justified.decisions i here at).0 (root zero_level)).0
       | inr other ↦ omega arith
     ] in
     record {
-      walk = IsWalk-keep stored entries i here before after at is new.marks new.hints new.kept;
+      walk = IsWalk-keep stored entries positions table i here before after at is new.marks new.hints new.kept;
       more = λ from kept low keeps. KeepsMore-kept entries keeping from kept i here before after at low marked above decided new keeps;
       apart = λ from low apart. subst (λ (ms : Marks). from ≤ ms.lowest) (sym new.marks) apart;
       start = ap (λ m. m.start) new.marks;
@@ -339,14 +353,14 @@ pub record ComesDown (stored : List Stored) (entries : List Assigned) (position 
   pub lower : before.marks.lowest < length entries → down.marks.lowest < length entries
   pub still : length entries ≤ before.marks.lowest → (down.marks.lowest ≡ before.marks.lowest) × (position ≡ length entries)
 
-pub KeepsPoint-kept : (stored : List Stored) (entries : List Assigned) (position : ℕ) (here : Assigned) (before walk after : Walk) → before.kept.items ≡ [] → ComesDown stored entries position before walk → walk.marks.lowest < position → position ≤ walk.marks.lowest + 1 → IsEntryAt entries walk.marks.lowest here → KeepsLit here.lit walk after → KeepsPoint stored entries before after
-KeepsPoint-kept stored entries position here before walk after none down above near at new =
+pub KeepsPoint-kept : (stored : List Stored) (entries : List Assigned) (positions : List ℕ) (table : HasPositions entries positions) (position : ℕ) (here : Assigned) (before walk after : Walk) → before.kept.items ≡ [] → ComesDown stored entries position before walk → walk.marks.lowest < position → position ≤ walk.marks.lowest + 1 → IsEntryAt entries walk.marks.lowest here → KeepsLit here.lit walk after → KeepsPoint stored entries before after
+KeepsPoint-kept stored entries positions table position here before walk after none down above near at new =
     let lowest : after.marks.lowest ≡ walk.marks.lowest = ap (λ m. m.lowest) new.marks in
     let kept : after.kept.items ≡ here.lit ∷ [] = new.kept ∙ ap (λ (ks : List ℕ). ks ++ here.lit ∷ []) (ap (λ v. v.items) down.kept ∙ none) in
     let next : position ≡ walk.marks.lowest + 1 = omega arith in
     record {
       walk = subst (λ (n : ℕ). IsWalk stored entries n after) (sym lowest)
-          (IsWalk-keep stored entries walk.marks.lowest here walk after at (subst (λ (n : ℕ). IsWalk stored entries n walk) next down.walk) new.marks new.hints new.kept);
+          (IsWalk-keep stored entries positions table walk.marks.lowest here walk after at (subst (λ (n : ℕ). IsWalk stored entries n walk) next down.walk) new.marks new.hints new.kept);
       level = new.level ∙ down.level;
       start = ap (λ m. m.start) new.marks ∙ down.start;
       point = inr (

@@ -16,12 +16,6 @@ use Rattle.sat_analyze.specs.declared.marks.Marks.{Marks}
 use Rattle.sat_analyze.specs.Derived.{AreNamed, HasVariable}
 use Rattle.sat_analyze.specs.Marked.{IsMarked, IsLowest, IsPositionOf}
 
--- the table tells, by its variable, where each entry stands
-abbrev pub HasPositions : List Assigned → List ℕ → Type 0
-HasPositions entries positions = (i : ℕ) (entry : Assigned) → IsEntryAt entries i entry
-    → (variable_of entry.lit < length positions)
-    × (slice_index positions (variable_of entry.lit) ≡ i)
-
 -- the entries of the current_level level stand from the position on, where that level is above 0, and otherwise none do
 pub record IsStart (entries : List Assigned) (start : ℕ) : Type 0 where
   pub within : start ≤ length entries
@@ -53,7 +47,6 @@ IsLate entries position kept = (m : ℕ) → Contains kept m
 -- the marks are those of a trail's positions
 pub record AreMarks (entries : List Assigned) (marks : Marks) : Type 0 where
   pub sized : length marks.seen.items ≡ length entries
-  pub positions : HasPositions entries marks.positions.items
   pub lowest : IsLowest marks.seen.items marks.start marks.lowest
 
 -- no two literals are of one variable
@@ -80,17 +73,17 @@ pub record IsWalk (stored : List Stored) (entries : List Assigned) (position : �
   pub refutes : RefutesFrom stored entries position walk.marks.seen.items walk.kept.items
       walk.hints.items
 
--- the walk meets the clause at the position: its literals' variables are marked, and its id becomes a hint
-pub record Meets (stored : List Stored) (position : ℕ) (before after : Walk) : Type 0 where
+-- the walk meets the clause at the position: its literals' variables, which stand where the table says, are marked, and its
+-- id becomes a hint
+pub record Meets (stored : List Stored) (positions : List ℕ) (position : ℕ) (before after : Walk) : Type 0 where
   pub met : Stored
   pub within : position < length stored
   pub there : slice_index_or stored position met ≡ met
   pub exact : (i : ℕ) → IsMarked after.marks.seen.items i
       ↔ (IsMarked before.marks.seen.items i
-      ⊎ IsPositionOf before.marks.positions.items met.clause i)
+      ⊎ IsPositionOf positions met.clause i)
   pub sized : length after.marks.seen.items ≡ length before.marks.seen.items
   pub lowest : IsLowest after.marks.seen.items after.marks.start after.marks.lowest
-  pub positions : after.marks.positions ≡ before.marks.positions
   pub start : after.marks.start ≡ before.marks.start
   pub hints : after.hints.items ≡ before.hints.items ++ met.id ∷ []
   pub kept : after.kept ≡ before.kept

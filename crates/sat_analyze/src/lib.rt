@@ -8,4 +8,4 @@ mod marks;
 mod positions;
 mod walk;
 
-pub use learnt::{Learnt, final_clause, learn};
+pub use learnt::{Analyzer, Learnt, final_clause, learn};

@@ -1,13 +1,13 @@
 //! The walk back over a trail: each marked literal is resolved with its reason, or kept.
 ghost use Rattle.std.specs.Prelude.{◌≡◌, ℕ, ◌+◌, ◌<◌, ◌≤◌, None, Some, true, [], length, slice_index_or, IfOk, IfSome, IfNone, OnOk};
 ghost use Rattle.sat_arena.specs.ArenaState.{clauses_of};
-ghost use Rattle.sat_arena.specs.Justified.{IsJustified, IsEntryAt};
+ghost use Rattle.sat_arena.specs.Justified.{IsJustified, IsEntryAt, HasPositions};
 ghost use Rattle.sat_analyze.specs.declared.walk.Keeping.TheVariants.{Decisions};
 ghost use Rattle.sat_analyze.specs.Marked.{IsMarked, ArePositioned, IsLowest};
 ghost use Rattle.sat_analyze.specs.Walked.{IsStart, IsFresh, IsWalk, Meets, Keeps, KeepsLit, Resolves, KeepsPoint, Steps, KeepsMore};
 
 use crate::marks::Marks;
-use crate::positions::{positions_of, start_of_current_level};
+use crate::positions::start_of_current_level;
 use fsmv_base::{Id, NoMemory};
 use sat_arena::{Arena, Assigned, Trail};
 use sat_lits::Lit;
@@ -26,6 +26,13 @@ pub struct Walk {
     pub level: u32,
 }
 
+/// Tables that an earlier walk leaves to a later one, so that it need not take memory again.
+#[derive(Drop)]
+pub struct Tables {
+    pub seen: Vec<bool>,
+    pub met: Vec<Lit>,
+}
+
 /// Which literals a walk keeps; it resolves the others.
 #[derive(Clone, Copy)]
 pub enum Keeping {
@@ -38,18 +45,21 @@ pub enum Keeping {
 impl Walk {
     /// The walk with nothing marked. It keeps the lowest mark of the current_level level in sight, where that
     /// level is above 0.
-    pub fn new(alloc: Global, trail: &Trail) -> Result<Walk, NoMemory>
+    pub fn new(alloc: Global, tables: Tables, trail: &Trail) -> Result<Walk, NoMemory>
         ensures { IfOk result (IsFresh trail.now.entries) }
     {
         let entries = trail.entries();
-        let mut seen = Vec::new(alloc);
-        seen.resize(entries.len(), false)?;
+        let mut tables = tables;
+        tables.seen.clear();
+        tables.seen.resize(entries.len(), false)?;
+        tables.met.clear();
+        tables.met.reserve(entries.len())?;
         Ok(Walk {
             marks: Marks {
-                positions: positions_of(alloc, trail)?,
-                seen,
+                seen: tables.seen,
                 start: start_of_current_level(entries),
                 lowest: entries.len(),
+                met: tables.met,
             },
             kept: Vec::new(alloc),
             hints: Vec::new(alloc),
@@ -58,23 +68,28 @@ impl Walk {
     }
 
     /// Takes in the clause at the position: marks its literals and notes it as a hint.
-    pub fn meet(&mut self, arena: &Arena, at: u32) -> Result<(), NoMemory>
+    pub fn meet(&mut self, arena: &Arena, positions: &[u32], at: u32) -> Result<(), NoMemory>
         requires within { at < length arena.now.stored }
-        requires positioned { ArePositioned self.old.marks.positions.items
-            (length self.old.marks.seen.items)
+        requires positioned { ArePositioned positions.now (length self.old.marks.seen.items)
             (slice_index_or (clauses_of arena.now.stored) at []) }
         requires lowest { IsLowest self.old.marks.seen.items self.old.marks.start
             self.old.marks.lowest }
-        ensures { OnOk result (Meets arena.now.stored at self.old self.new) }
+        ensures { OnOk result (Meets arena.now.stored positions.now at self.old self.new) }
     {
-        self.marks.mark(arena.lits(at));
+        self.marks.mark(positions, arena.lits(at));
         self.hints.push(arena.id(at))?;
         Ok(())
     }
 
     /// Resolves the literals of the current_level level with their reasons, down to the one through which all
     /// ways to the conflict lead, and keeps that. At level 0 it does nothing.
-    pub fn keep_unique_point(&mut self, arena: &Arena, entries: &[Assigned]) -> Result<(), NoMemory>
+    pub fn keep_unique_point(
+        &mut self,
+        arena: &Arena,
+        entries: &[Assigned],
+        positions: &[u32],
+    ) -> Result<(), NoMemory>
+        requires positions { HasPositions entries.now positions.now }
         requires justified { IsJustified (clauses_of arena.now.stored) entries.now }
         requires start { IsStart entries.now self.old.marks.start }
         requires walk { IsWalk arena.now.stored entries.now (length entries.now) self.old }
@@ -84,7 +99,7 @@ impl Walk {
         let mut position = entries.len();
         while self.marks.lowest + 1 < position {
             position -= 1;
-            self.resolve(arena, entries, position)?;
+            self.resolve(arena, entries, positions, position)?;
         }
         if self.marks.lowest < position {
             self.keep_lit(entries[self.marks.lowest].lit)?;
@@ -97,8 +112,10 @@ impl Walk {
         &mut self,
         arena: &Arena,
         entries: &[Assigned],
+        positions: &[u32],
         position: usize,
     ) -> Result<(), NoMemory>
+        requires positions { HasPositions entries.now positions.now }
         requires justified { IsJustified (clauses_of arena.now.stored) entries.now }
         requires walk { IsWalk arena.now.stored entries.now (position + 1) self.old }
         requires forced { (entry : Assigned) → IsEntryAt entries.now position entry → entry.reason
@@ -109,7 +126,7 @@ impl Walk {
             return Ok(());
         }
         let reason = entries[position].reason.unwrap();
-        self.meet(arena, reason)
+        self.meet(arena, positions, reason)
     }
 
     /// Resolves or keeps each marked literal before the position.
@@ -117,9 +134,11 @@ impl Walk {
         &mut self,
         arena: &Arena,
         entries: &[Assigned],
+        positions: &[u32],
         from: usize,
         keeping: Keeping,
     ) -> Result<(), NoMemory>
+        requires positions { HasPositions entries.now positions.now }
         requires justified { IsJustified (clauses_of arena.now.stored) entries.now }
         requires walk { IsWalk arena.now.stored entries.now from self.old }
         requires level { self.old.level ≡ 0 }
@@ -129,8 +148,11 @@ impl Walk {
         ensures start { OnOk result (self.new.marks.start ≡ self.old.marks.start) }
         ensures apart { OnOk result (from ≤ self.old.marks.lowest → from ≤ self.new.marks.lowest) }
     {
-        for position in (0..from).rev() {
-            self.step(arena, entries, position, keeping)?;
+        let mut position = self.marks.skip_unmarked(from);
+        while position > 0 {
+            position -= 1;
+            self.step(arena, entries, positions, position, keeping)?;
+            position = self.marks.skip_unmarked(position);
         }
         Ok(())
     }
@@ -140,9 +162,11 @@ impl Walk {
         &mut self,
         arena: &Arena,
         entries: &[Assigned],
+        positions: &[u32],
         position: usize,
         keeping: Keeping,
     ) -> Result<(), NoMemory>
+        requires positions { HasPositions entries.now positions.now }
         requires justified { IsJustified (clauses_of arena.now.stored) entries.now }
         requires walk { IsWalk arena.now.stored entries.now (position + 1) self.old }
         ensures { OnOk result (Steps arena.now.stored entries.now position keeping self.old
@@ -152,8 +176,8 @@ impl Walk {
             return Ok(());
         }
         let entry = &entries[position];
-        match self.followed_reason(arena, entries, entry, keeping) {
-            Some(reason) => self.meet(arena, reason),
+        match self.followed_reason(arena, entries, positions, entry, keeping) {
+            Some(reason) => self.meet(arena, positions, reason),
             None => self.keep(entry),
         }
     }
@@ -163,12 +187,13 @@ impl Walk {
         &self,
         arena: &Arena,
         entries: &[Assigned],
+        positions: &[u32],
         entry: &Assigned,
         keeping: Keeping,
     ) -> Option<u32>
         requires within { IfSome entry.now.reason (λ reason. reason < length arena.now.stored) }
         requires positioned { IfSome entry.now.reason
-            (λ reason. ArePositioned self.now.marks.positions.items (length entries.now)
+            (λ reason. ArePositioned positions.now (length entries.now)
             (slice_index_or (clauses_of arena.now.stored) reason [])) }
         requires sized { length self.now.marks.seen.items ≡ length entries.now }
         ensures some { IfSome result (λ reason. entry.now.reason ≡ Some reason) }
@@ -177,8 +202,10 @@ impl Walk {
     {
         let reason = entry.reason?;
         match keeping {
-            Keeping::Needed if entry.level > 0 && !self.marks.cover(entries, arena.lits(reason)) =>
-                { None }
+            Keeping::Needed
+                if entry.level > 0 && !self.marks.cover(entries, positions, arena.lits(reason)) => {
+                None
+            }
             _ => Some(reason),
         }
     }

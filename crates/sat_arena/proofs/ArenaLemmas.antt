@@ -61,16 +61,19 @@ module _ (clauses : List (List ℕ)) (watched : List ℕ) (clause : List ℕ) (f
     | inr ne ↦ (let same : n ≡ length watched + 1 = omega (arith, more_long) in inr (same, ap (λ k. watch_of more_watched k) same ∙ second_watch))
   ]
 
-  pub AreWatches-append : (1 < length clause → AreTwoOf clause first second) → AreWatches more_clauses more_watched
-  AreWatches-append two = record {
+  held_any : (l : ℕ) → IsAnyOf clause l → 0 < length clause → Contains clause l
+  held_any l any some = elim any [ inl holds ↦ holds | inr none ↦ absurd (omega (arith, none.0)) ]
+
+  pub AreWatches-append : IsAnyOf clause first → IsAnyOf clause second → (1 < length clause → AreTwoOf clause first second) → AreWatches more_clauses more_watched
+  AreWatches-append first_any second_any two = record {
     two_each = more_long ∙ omega (arith, watches.two_each, length_push clauses clause);
     holds = λ n h more. elim (cases_lt n (length watched)) [
       | inl before ↦ subst (λ (c : List ℕ). Contains c (watch_of more_watched n)) (sym (old_clause n before))
-          (subst (λ (w : ℕ). Contains (clause_of clauses n) w) (sym (old_watch n before)) (watches.holds n before (subst (λ (c : List ℕ). 1 < length c) (old_clause n before) more)))
-      | inr after ↦ (let pair = two (subst (λ (c : List ℕ). 1 < length c) (new_clause n after h) more) in
+          (subst (λ (w : ℕ). Contains (clause_of clauses n) w) (sym (old_watch n before)) (watches.holds n before (subst (λ (c : List ℕ). 0 < length c) (old_clause n before) more)))
+      | inr after ↦ (let some : 0 < length clause = subst (λ (c : List ℕ). 0 < length c) (new_clause n after h) more in
           subst (λ (c : List ℕ). Contains c (watch_of more_watched n)) (sym (new_clause n after h)) (elim (new_watch n after h) [
-            | inl one ↦ subst (λ (w : ℕ). Contains clause w) (sym one.1) pair.holds_first
-            | inr other ↦ subst (λ (w : ℕ). Contains clause w) (sym other.1) pair.holds_second
+            | inl one ↦ subst (λ (w : ℕ). Contains clause w) (sym one.1) (held_any first first_any some)
+            | inr other ↦ subst (λ (w : ℕ). Contains clause w) (sym other.1) (held_any second second_any some)
           ]))
     ];
     differ = λ n h more same. elim (cases_lt n (length watched)) [
@@ -86,9 +89,9 @@ module _ (clauses : List (List ℕ)) (watched : List ℕ) (clause : List ℕ) (f
     ];
   }
 
-pub IsArena-append : (stored : List Stored) (s : Stored) (watched links heads : List ℕ) (vars first second : ℕ) → IsArena stored watched links heads vars → length stored + 1 < 2 ^ 31 → All (IsGrown vars) s.clause → first < length heads → second < length heads → (1 < length s.clause → AreTwoOf s.clause first second)
+pub IsArena-append : (stored : List Stored) (s : Stored) (watched links heads : List ℕ) (vars first second : ℕ) → IsArena stored watched links heads vars → length stored + 1 < 2 ^ 31 → All (IsGrown vars) s.clause → first < length heads → second < length heads → IsAnyOf s.clause first → IsAnyOf s.clause second → (1 < length s.clause → AreTwoOf s.clause first second)
     → IsArena (stored ++ s ∷ []) ((watched ++ first ∷ []) ++ second ∷ []) ((links ++ get_or heads first 0 ∷ []) ++ get_or (set heads first (length links + 1)) second 0 ∷ []) (set (set heads first (length links + 1)) second (length (links ++ get_or heads first 0 ∷ []) + 1)) vars
-IsArena-append stored s watched links heads vars first second arena small grown first_in second_in two =
+IsArena-append stored s watched links heads vars first second arena small grown first_in second_in first_any second_any two =
     let clauses : clauses_of (stored ++ s ∷ []) ≡ clauses_of stored ++ s.clause ∷ [] = map_push (λ (x : Stored). x.clause) stored s in
     let long : length (set (set heads first (length links + 1)) second (length (links ++ get_or heads first 0 ∷ []) + 1)) ≡ length heads
     = length-set (set heads first (length links + 1)) second (length (links ++ get_or heads first 0 ∷ []) + 1) ∙ length-set heads first (length links + 1) in
@@ -98,7 +101,7 @@ IsArena-append stored s watched links heads vars first second arena small grown 
       room = λ some. omega (arith, arena.room some, long);
       within = subst (λ (n : ℕ). All (λ l. l < n) ((watched ++ first ∷ []) ++ second ∷ [])) (sym long)
           (All-push (λ (l : ℕ). l < length heads) (watched ++ first ∷ []) second (All-push (λ (l : ℕ). l < length heads) watched first arena.within first_in) second_in);
-      watches = subst (λ (cs : List (List ℕ)). AreWatches cs ((watched ++ first ∷ []) ++ second ∷ [])) (sym clauses) (AreWatches-append (clauses_of stored) watched s.clause first second arena.watches two);
+      watches = subst (λ (cs : List (List ℕ)). AreWatches cs ((watched ++ first ∷ []) ++ second ∷ [])) (sym clauses) (AreWatches-append (clauses_of stored) watched s.clause first second arena.watches first_any second_any two);
       listed = AreListed-append (links ++ get_or heads first 0 ∷ []) (set heads first (length links + 1)) (watched ++ first ∷ []) second (AreListed-append links heads watched first arena.listed first_in)
           (omega (arith, length-set heads first (length links + 1)));
     }
@@ -139,7 +142,7 @@ pub IsArena-appended : (stored stored' : List Stored) (s : Stored) (watched watc
 IsArena-appended stored stored' s watched watched1 watched2 links links1 links2 heads heads0 heads1 heads2 vars first second arena longer four small grown first_any second_any two a b c d e f g =
     let longer_arena = IsArena-lengthened stored watched links heads heads0 vars vars arena longer (omega arith) (λ up. absurd (omega arith)) in
     let made = IsArena-append stored s watched links heads0 vars first second longer_arena small grown
-    (any_within s.clause vars (length heads0) first grown longer_arena.room four first_any) (any_within s.clause vars (length heads0) second grown longer_arena.room four second_any) two in
+    (any_within s.clause vars (length heads0) first grown longer_arena.room four first_any) (any_within s.clause vars (length heads0) second grown longer_arena.room four second_any) first_any second_any two in
     let W = (watched ++ first ∷ []) ++ second ∷ [] in
     let w : watched2 ≡ (watched ++ first ∷ []) ++ second ∷ [] = e ∙ ap (λ ws. ws ++ second ∷ []) b in
     let l : links2 ≡ (links ++ get_or heads0 first 0 ∷ []) ++ get_or (set heads0 first (length links + 1)) second 0 ∷ [] = f ∙ ap (λ hs. links1 ++ get_or hs second 0 ∷ []) d ∙ ap (λ ls. ls ++ get_or (set heads0 first (length links + 1)) second 0 ∷ []) c in
@@ -210,7 +213,7 @@ two_watched stored watched links heads vars at arena within more =
     let clause_first : clause_of (clauses_of stored) (2 * at) ≡ get_or (clauses_of stored) at [] = ap (λ k. get_or (clauses_of stored) k []) first in
     let clause_second : clause_of (clauses_of stored) (2 * at + 1) ≡ get_or (clauses_of stored) at [] = ap (λ k. get_or (clauses_of stored) k []) second in
     record {
-      holds_first = subst (λ (c : List ℕ). Contains c (watch_of watched (2 * at))) clause_first (arena.watches.holds (2 * at) (omega arith) (subst (λ (c : List ℕ). 1 < length c) (sym clause_first) more));
-      holds_second = subst (λ (c : List ℕ). Contains c (watch_of watched (2 * at + 1))) clause_second (arena.watches.holds (2 * at + 1) (omega arith) (subst (λ (c : List ℕ). 1 < length c) (sym clause_second) more));
+      holds_first = subst (λ (c : List ℕ). Contains c (watch_of watched (2 * at))) clause_first (arena.watches.holds (2 * at) (omega arith) (subst (λ (c : List ℕ). 0 < length c) (sym clause_first) (omega arith)));
+      holds_second = subst (λ (c : List ℕ). Contains c (watch_of watched (2 * at + 1))) clause_second (arena.watches.holds (2 * at + 1) (omega arith) (subst (λ (c : List ℕ). 0 < length c) (sym clause_second) (omega arith)));
       differ = λ same. arena.watches.differ (2 * at) (omega arith) (subst (λ (c : List ℕ). 1 < length c) (sym clause_first) more) (same ∙ ap (λ k. watch_of watched k) (sym other));
     }

@@ -15,3 +15,4 @@ pub mod TrueInLemmas
 pub mod PropagatorLemmas
 pub mod LatestLemmas
 pub mod MoveLemmas
+pub mod SearchLemmas

@@ -19,7 +19,7 @@ use Rattle.sat_arena.specs.Settled.{HasTrue, HasTwo, IsSettled}
 use Rattle.sat_arena.specs.Deduced.{Deduces, nothing, one_more, IsConflict}
 use Rattle.sat_arena.specs.Justified.{current_level, IsEntryAt}
 use Rattle.sat_arena.specs.Guarded.{IsGuarded, IsLast, level_at}
-use Rattle.sat_arena.specs.Watches.{clause_of, watch_of, AreTwoOf, AreWatches, KeepsWatches, IsNoLater, AreLatest}
+use Rattle.sat_arena.specs.Watches.{clause_of, watch_of, AreTwoOf, AreWatches, KeepsWatches, IsNoLater, AreLatest, IsAnyOf}
 use Rattle.sat_arena.specs.PropagatorState.{AreShortTrue, AreCurrentFrom, IsPropagator}
 use Rattle.sat_arena.proofs.TrailLemmas.{true_in-push}
 use Rattle.sat_arena.proofs.LevelLemmas.{up_to-all}
@@ -244,11 +244,11 @@ IsGuarded-forced entries entry head clause first second rising within latest set
 )
 
 -- watches of the clauses before and of the new one
-KeepsWatches-append : (entries : List Assigned) (head : ℕ) (clauses : List (List ℕ)) (watched : List ℕ) (clause : List ℕ) (first second : ℕ) → KeepsWatches entries head clauses watched → (1 < length clause → AreTwoOf clause first second) → (1 < length clause → IsGuarded entries head clause first × IsGuarded entries head clause second)
+KeepsWatches-append : (entries : List Assigned) (head : ℕ) (clauses : List (List ℕ)) (watched : List ℕ) (clause : List ℕ) (first second : ℕ) → KeepsWatches entries head clauses watched → IsAnyOf clause first → IsAnyOf clause second → (1 < length clause → AreTwoOf clause first second) → (1 < length clause → IsGuarded entries head clause first × IsGuarded entries head clause second)
     → KeepsWatches entries head (clauses ++ clause ∷ []) ((watched ++ first ∷ []) ++ second ∷ [])
-KeepsWatches-append entries head clauses watched clause first second keeps two guards =
+KeepsWatches-append entries head clauses watched clause first second keeps first_any second_any two guards =
     let watches = AreWatches-from_kept entries head clauses watched keeps in
-    KeepsWatches-from_guarded entries head (clauses ++ clause ∷ []) ((watched ++ first ∷ []) ++ second ∷ []) (AreWatches-append clauses watched clause first second watches two) (λ n h more. elim (cases_lt n (length watched)) [
+    KeepsWatches-from_guarded entries head (clauses ++ clause ∷ []) ((watched ++ first ∷ []) ++ second ∷ []) (AreWatches-append clauses watched clause first second watches first_any second_any two) (λ n h more. elim (cases_lt n (length watched)) [
       | inl before ↦
           subst (λ (c : List ℕ). IsGuarded entries head c (watch_of ((watched ++ first ∷ []) ++ second ∷ []) n)) (sym (old_clause clauses watched clause first second watches n before))
           (subst (λ (w : ℕ). IsGuarded entries head (clause_of clauses n) w) (sym (old_watch clauses watched clause first second watches n before)) (keeps.guarded n before (subst (λ (c : List ℕ). 1 < length c) (old_clause clauses watched clause first second watches n before) more)))
@@ -289,6 +289,8 @@ module _ (stored : List Stored) (s : Stored) (watched : List ℕ) (arena_vars va
     (orderly : IsOrderly entries vars)
     (consistent : IsConsistent (true_in entries))
     (grown : All (IsGrown vars) s.clause)
+    (first_any : IsAnyOf s.clause first)
+    (second_any : IsAnyOf s.clause second)
     (latest : 1 < length s.clause → AreLatest entries s.clause first second)
     (settled : (k : ℕ) → k < current_level entries → IsSettled (true_in (up_to k entries)) s.clause) where
   clauses_more : clauses_of (stored ++ s ∷ []) ≡ clauses_of stored ++ s.clause ∷ []
@@ -309,7 +311,7 @@ module _ (stored : List Stored) (s : Stored) (watched : List ℕ) (arena_vars va
     within = keeps.within;
     current = keeps.current;
     keeps = λ none. subst (λ (cs : List (List ℕ)). KeepsWatches entries head cs ((watched ++ first ∷ []) ++ second ∷ [])) (sym clauses_more)
-        (KeepsWatches-append entries head (clauses_of stored) watched s.clause first second (keeps.keeps none) (λ long. (latest long).two) (λ long. IsGuarded-settled entries head s.clause first second orderly.rising consistent (latest long) settled now));
+        (KeepsWatches-append entries head (clauses_of stored) watched s.clause first second (keeps.keeps none) first_any second_any (λ long. (latest long).two) (λ long. IsGuarded-settled entries head s.clause first second orderly.rising consistent (latest long) settled now));
     short = λ none. subst (λ (cs : List (List ℕ)). AreShortTrue entries cs) (sym clauses_more)
         (AreShortTrue-append entries (clauses_of stored) s.clause (keeps.short none) (λ few. elim (cases_lt 0 (current_level entries)) [
           | inl above ↦ settled_short (true_in (up_to 0 entries)) s.clause (settled 0 above) few
@@ -330,7 +332,7 @@ module _ (stored : List Stored) (s : Stored) (watched : List ℕ) (arena_vars va
           | inr last ↦ ap (λ x. x.level) last.0 ∙ sym (current_level-push entries entry)
         ];
         keeps = λ none. subst (λ (cs : List (List ℕ)). KeepsWatches (entries ++ entry ∷ []) head cs ((watched ++ first ∷ []) ++ second ∷ [])) (sym clauses_more)
-            (KeepsWatches-append (entries ++ entry ∷ []) head (clauses_of stored) watched s.clause first second (KeepsWatches-push head entries entry (clauses_of stored) watched kept (keeps.keeps none)) (λ long. (latest long).two)
+            (KeepsWatches-append (entries ++ entry ∷ []) head (clauses_of stored) watched s.clause first second (KeepsWatches-push head entries entry (clauses_of stored) watched kept (keeps.keeps none)) first_any second_any (λ long. (latest long).two)
             (λ long. IsGuarded-forced entries entry head s.clause first second orderly.rising kept (latest long) settled forces level));
         short = λ none. subst (λ (cs : List (List ℕ)). AreShortTrue (entries ++ entry ∷ []) cs) (sym clauses_more)
             (AreShortTrue-append (entries ++ entry ∷ []) (clauses_of stored) s.clause (AreShortTrue-push entries entry (clauses_of stored) (keeps.short none)) (λ few. elim (cases_lt 0 (current_level entries)) [

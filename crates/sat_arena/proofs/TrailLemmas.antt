@@ -1,5 +1,5 @@
 -- What is true as a trail grows and shrinks.
-use Rattle.std.proofs.Common.{◌≡◌, ◌≢◌, ℕ, ◌==◌, ◌||◌, ◌≤◌, ◌<◌, ◌+◌, ◌*◌, Bool, true, false, List, [], ◌∷◌, ◌++◌, length, map, set, get_or, take, min, arith, inl, inr, sym, ◌∙◌, ap, refl, get_or-set_same, get_or-set_other, length-set, zero, suc, replicate}
+use Rattle.std.proofs.Common.{◌≡◌, ◌≢◌, ℕ, ◌==◌, ◌||◌, ◌≤◌, ◌<◌, ◌+◌, ◌*◌, Bool, true, false, List, [], ◌∷◌, ◌++◌, length, map, set, get_or, take, min, arith, inl, inr, sym, ◌∙◌, ap, subst, refl, get_or-set_same, get_or-set_other, length-set, zero, suc, replicate}
 use Rattle.std.specs.Prelude.{All}
 use Rattle.std.specs.List.{list_any, IsDistinct, AllPairs, Any}
 use Rattle.std.proofs.lemmas.Bool.{cases_eq, cases_order, or_parts, or_cases, eq-eqb, ne_eqb, eqb-true, eqb-false, or_right, false≢true}
@@ -10,6 +10,7 @@ use Rattle.std.proofs.lemmas.List.Elements.{All-cons, All-nil, All-tail, All-pus
 use Rattle.std.proofs.lemmas.List.Quantifiers.{all_pairs_push}
 use Rattle.sat_lits.specs.Literals.{negation, variable_of}
 use Rattle.sat_arena.specs.declared.trail.Assigned.{Assigned}
+use Rattle.sat_arena.specs.Justified.{HasPositions}
 use Rattle.sat_arena.specs.Trails.{true_in, marked, IsGrown, IsOrderly, KeepsTogether}
 
 abbrev pub HaveTwoVariables : Assigned → Assigned → Type 0
@@ -206,3 +207,14 @@ KeepsTogether-grow entries truth truth' positions vars vars' capacity capacity' 
       set_fits = omega arith;
       reserved = λ _. room;
     }
+
+-- ---- Positions
+
+-- the table of a trail has the position of each entry
+pub has_positions : (entries : List Assigned) (truth : List Bool) (positions : List ℕ) (vars capacity : ℕ) → KeepsTogether entries truth positions vars capacity → HasPositions entries positions
+has_positions entries truth positions vars capacity keeps i entry at =
+    let grown : IsGrown vars entry.lit = subst (λ (e : Assigned). IsGrown vars e.lit) at.1 (keeps.orderly.within i entry at.0) in
+    let room : vars + 1 ≤ length positions = keeps.positions_room (omega (arith, grown.0, grown.1)) in (
+      omega (arith, room, grown.1),
+      subst (λ (e : Assigned). get_or positions (variable_of e.lit) 0 ≡ i) at.1 (keeps.positions_are i entry at.0),
+    )

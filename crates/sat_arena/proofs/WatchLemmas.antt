@@ -43,8 +43,8 @@ all_settled entries head clauses watched keeps done i within more =
     let n_some : 1 < length (get_or clauses (n / 2) []) = subst (λ (k : ℕ). 1 < length (get_or clauses k [])) (sym here) more in
     let m_some : 1 < length (get_or clauses (negation n / 2) []) = subst (λ (k : ℕ). 1 < length (get_or clauses k [])) (sym there) more in
     IsSettled-from_IsWatched entries head (get_or clauses i []) (watch_of watched n) (watch_of watched (negation n)) (record {
-      holds_one = subst (λ (k : ℕ). Contains (get_or clauses k []) (watch_of watched n)) here (keeps.holds n n_within n_some);
-      holds_two = subst (λ (k : ℕ). Contains (get_or clauses k []) (watch_of watched (negation n))) there (keeps.holds (negation n) m_within m_some);
+      holds_one = subst (λ (k : ℕ). Contains (get_or clauses k []) (watch_of watched n)) here (keeps.holds n n_within (omega arith));
+      holds_two = subst (λ (k : ℕ). Contains (get_or clauses k []) (watch_of watched (negation n))) there (keeps.holds (negation n) m_within (omega arith));
       differ = keeps.differ n n_within n_some;
       guards_one = subst (λ (k : ℕ). IsGuarded entries head (get_or clauses k []) (watch_of watched n)) here (keeps.guarded n n_within n_some);
       guards_two = subst (λ (k : ℕ). IsGuarded entries head (get_or clauses k []) (watch_of watched (negation n))) there (keeps.guarded (negation n) m_within m_some);
@@ -84,8 +84,8 @@ AreVisited-push head entries entry clauses watched pending falsified within visi
 
 -- ---- One watch, which watches x from now on
 
-pub KeepsWatches-moved : (entries : List Assigned) (head : ℕ) (clauses : List (List ℕ)) (watched : List ℕ) (n falsified x : ℕ) → KeepsWatches entries head clauses watched → n < length watched → (1 < length (clause_of clauses n) → MayWatch entries head (clause_of clauses n) falsified (watch_of watched (negation n)) x) → KeepsWatches entries head clauses (set watched n x)
-KeepsWatches-moved entries head clauses watched n falsified x keeps within may =
+pub KeepsWatches-moved : (entries : List Assigned) (head : ℕ) (clauses : List (List ℕ)) (watched : List ℕ) (n falsified x : ℕ) → KeepsWatches entries head clauses watched → n < length watched → (0 < length (clause_of clauses n) → Contains (clause_of clauses n) x) → (1 < length (clause_of clauses n) → MayWatch entries head (clause_of clauses n) falsified (watch_of watched (negation n)) x) → KeepsWatches entries head clauses (set watched n x)
+KeepsWatches-moved entries head clauses watched n falsified x keeps within held may =
     let long : length (set watched n x) ≡ length watched = length-set watched n x in
     let here : watch_of (set watched n x) n ≡ x = get_or-set_same watched n x 0 within in
     let old : (m : ℕ) → (m ≡ n → ⊥) → watch_of (set watched n x) m ≡ watch_of watched m = λ m ne. get_or-set_other watched n m x 0 ne in
@@ -93,7 +93,7 @@ KeepsWatches-moved entries head clauses watched n falsified x keeps within may =
     record {
       two_each = long ∙ keeps.two_each;
       holds = λ m h more. elim (cases_eq m n) [
-        | inl same ↦ subst (λ (k : ℕ). Contains (clause_of clauses k) (watch_of (set watched n x) k)) (sym same) (subst (λ (k : ℕ). Contains (clause_of clauses n) k) (sym here) (may (of_n m same more)).holds)
+        | inl same ↦ subst (λ (k : ℕ). Contains (clause_of clauses k) (watch_of (set watched n x) k)) (sym same) (subst (λ (k : ℕ). Contains (clause_of clauses n) k) (sym here) (held (subst (λ (k : ℕ). 0 < length (clause_of clauses k)) same more)))
         | inr ne ↦ subst (λ (k : ℕ). Contains (clause_of clauses m) k) (sym (old m ne)) (keeps.holds m (omega arith) more)
       ];
       differ = λ m h more same_watch. elim (cases_eq m n) [
@@ -140,7 +140,7 @@ pub MayWatch-stay : (entries : List Assigned) (head : ℕ) (d : Assigned) (claus
 MayWatch-stay entries head d clauses watched n falsified keeps within watches head_within current_level has more =
     let guard : IsGuarded entries head (clause_of clauses n) falsified = subst (λ (k : ℕ). IsGuarded entries head (clause_of clauses n) k) watches (keeps.guarded n within more) in
     record {
-      holds = subst (λ (k : ℕ). Contains (clause_of clauses n) k) watches (keeps.holds n within more);
+      holds = subst (λ (k : ℕ). Contains (clause_of clauses n) k) watches (keeps.holds n within (omega arith));
       apart = λ same. keeps.differ n within more (watches ∙ same);
       guards = guard;
       further = λ _. IsGuarded-satisfied head entries d (clause_of clauses n) falsified head_within current_level has guard;
@@ -164,11 +164,15 @@ KeepsWatches-next entries head d clauses watched falsified keeps visited within 
 
 -- ---- For the visit of one watch
 
-pub is_in_clause : (entries : List Assigned) (head : ℕ) (clauses : List (List ℕ)) (watched : List ℕ) (n : ℕ) → KeepsWatches entries head clauses watched → n < length watched → 1 < length (clause_of clauses n) → Contains (clause_of clauses n) (watch_of watched (negation n))
+pub is_in_clause : (entries : List Assigned) (head : ℕ) (clauses : List (List ℕ)) (watched : List ℕ) (n : ℕ) → KeepsWatches entries head clauses watched → n < length watched → 0 < length (clause_of clauses n) → Contains (clause_of clauses n) (watch_of watched (negation n))
 is_in_clause entries head clauses watched n keeps within more =
     let m_within : negation n < length watched = omega (arith, keeps.two_each) in
     subst (λ (k : ℕ). Contains (get_or clauses k []) (watch_of watched (negation n))) (other_clause n)
-    (keeps.holds (negation n) m_within (subst (λ (k : ℕ). 1 < length (get_or clauses k [])) (sym (other_clause n)) more))
+    (keeps.holds (negation n) m_within (subst (λ (k : ℕ). 0 < length (get_or clauses k [])) (sym (other_clause n)) more))
+
+-- what a watch watches is in its clause
+pub held_at : (entries : List Assigned) (head : ℕ) (clauses : List (List ℕ)) (watched : List ℕ) (n falsified x : ℕ) → KeepsWatches entries head clauses watched → n < length watched → watch_of watched n ≡ falsified → x ≡ falsified → 0 < length (clause_of clauses n) → Contains (clause_of clauses n) x
+held_at entries head clauses watched n falsified x keeps within watches is some = subst (λ (k : ℕ). Contains (clause_of clauses n) k) (watches ∙ sym is) (keeps.holds n within some)
 
 -- an entry of the trail makes its literal true, and the negation of it false
 pub true_at : (entries : List Assigned) (head : ℕ) (entry : Assigned) → IsEntryAt entries head entry → true_in entries (negation (negation entry.lit)) ≡ true

@@ -1,6 +1,6 @@
 -- Why each entry of a trail is there.
 use Rattle.std.specs.Prelude.{◌≡◌, ℕ, ◌-◌, ◌<◌, ◌↔◌, Bool, true, List, [], Some, None, length, map, take, slice_index, slice_index_or, All, Contains}
-use Rattle.sat_lits.specs.Literals.{negation}
+use Rattle.sat_lits.specs.Literals.{negation, variable_of}
 use Rattle.sat_arena.specs.declared.trail.Assigned.{Assigned}
 use Rattle.sat_arena.specs.Trails.{true_in}
 
@@ -12,6 +12,12 @@ current_level entries = slice_index (map (λ e. e.level) entries) (length entrie
 abbrev pub IsEntryAt : List Assigned → ℕ → Assigned → Type 0
 IsEntryAt entries position entry = (position < length entries)
     × (slice_index_or entries position entry ≡ entry)
+
+-- the table tells, by its variable, where each entry stands
+abbrev pub HasPositions : List Assigned → List ℕ → Type 0
+HasPositions entries positions = (i : ℕ) (entry : Assigned) → IsEntryAt entries i entry
+    → (variable_of entry.lit < length positions)
+    × (slice_index positions (variable_of entry.lit) ≡ i)
 
 -- the literal became true at the level
 pub record IsTrueAt (entries : List Assigned) (literal level : ℕ) : Type 0 where

@@ -2,12 +2,13 @@
 use Rattle.std.specs.Prelude.{◌≡◌, ℕ, ◌+◌, ◌*◌, ◌/◌, ◌<◌, ◌≤◌, ◌^◌, ◌==◌, ◌&&◌, Bool, true, not, List, [], length, map, slice_index_or, slice_set, nat_lt, if◌then◌else◌, All, Contains, ◌⊎◌}
 use Rattle.std.specs.List.{list_any}
 use Rattle.sat_lits.specs.Literals.{negation, variable_of}
+use Rattle.sat_lits.specs.Steps.{IsFalsified}
 use Rattle.sat_arena.specs.declared.trail.Assigned.{Assigned}
 use Rattle.sat_arena.specs.Stored.{Stored}
 use Rattle.sat_arena.specs.Trails.{true_in}
 use Rattle.sat_arena.specs.ArenaState.{clauses_of, AreGrown}
 use Rattle.sat_arena.specs.Guarded.{IsGuarded}
-use Rattle.sat_arena.specs.Links.{AreListed}
+use Rattle.sat_arena.specs.Links.{IsChain, AreListed}
 
 -- ---- Two literals for each clause
 
@@ -29,10 +30,10 @@ pub record AreTwoOf (clause : List ℕ) (first second : ℕ) : Type 0 where
 abbrev pub IsAnyOf : List ℕ → ℕ → Type 0
 IsAnyOf clause l = Contains clause l ⊎ ((length clause ≡ 0) × (l ≡ 2))
 
--- each clause has two watches, and one of two or more literals watches two of them
+-- each clause has two watches, which watch its literals if it has any, and different ones if it has two or more
 pub record AreWatches (clauses : List (List ℕ)) (watched : List ℕ) : Type 0 where
   pub two_each : length watched ≡ 2 * length clauses
-  pub holds : (n : ℕ) → n < length watched → 1 < length (clause_of clauses n) → Contains (clause_of clauses n) (watch_of watched n)
+  pub holds : (n : ℕ) → n < length watched → 0 < length (clause_of clauses n) → Contains (clause_of clauses n) (watch_of watched n)
   pub differ : (n : ℕ) → n < length watched → 1 < length (clause_of clauses n) → watch_of watched n ≡ watch_of watched (negation n) → ⊥
 
 -- what an arena keeps: room for each position in 32 bits, grown variables, and a list for each literal
@@ -66,10 +67,10 @@ pub record MovesWatch (stored : List Stored) (watched : List ℕ) (at from to wa
 
 -- ---- Watches under a trail, of which the first `head` entries have left the queue
 
--- each clause of two or more literals watches two of them, and the first `head` entries owe it nothing
+-- each clause watches literals of its own, one of two or more different ones, and the first `head` entries owe these nothing
 pub record KeepsWatches (entries : List Assigned) (head : ℕ) (clauses : List (List ℕ)) (watched : List ℕ) : Type 0 where
   pub two_each : length watched ≡ 2 * length clauses
-  pub holds : (n : ℕ) → n < length watched → 1 < length (clause_of clauses n) → Contains (clause_of clauses n) (watch_of watched n)
+  pub holds : (n : ℕ) → n < length watched → 0 < length (clause_of clauses n) → Contains (clause_of clauses n) (watch_of watched n)
   pub differ : (n : ℕ) → n < length watched → 1 < length (clause_of clauses n) → watch_of watched n ≡ watch_of watched (negation n) → ⊥
   pub guarded : (n : ℕ) → n < length watched → 1 < length (clause_of clauses n) → IsGuarded entries head (clause_of clauses n) (watch_of watched n)
 
@@ -96,6 +97,13 @@ pub record MayWatch (entries : List Assigned) (head : ℕ) (clause : List ℕ) (
   pub apart : x ≡ other → ⊥
   pub guards : IsGuarded entries head clause x
   pub further : x ≡ falsified → IsGuarded entries (head + 1) clause falsified
+
+-- the watches that are linked from the start on are of the literal, and no clause but those of them holds only negations of
+-- the set's literals and watches that one
+pub record IsSearching (clauses : List (List ℕ)) (links watched : List ℕ) (literal_set : ℕ → Bool) (literal start : ℕ) : Type 0 where
+  pub pending : List ℕ
+  pub chain : IsChain links watched literal start pending
+  pub passed : (n : ℕ) → n < length watched → watch_of watched n ≡ literal → Contains pending n ⊎ (IsFalsified literal_set (clause_of clauses n) → ⊥)
 
 -- some watches of the literal that became false are pending, linked from the start on
 pub record IsVisiting (entries : List Assigned) (head : ℕ) (clauses : List (List ℕ)) (links heads watched : List ℕ) (falsified start : ℕ) : Type 0 where

@@ -1,13 +1,15 @@
 //! The clauses among which propagation goes on, and which of their literals they watch.
 ghost use Rattle.std.specs.Prelude.{◌≡◌, ℕ, ◌+◌, ◌*◌, ◌<◌, ◌≤◌, ◌^◌, ◌++◌, ◌∷◌, ◌⊎◌, [], not, All, Contains, filter, length, max, map, slice_index_or, slice_set, replicate, take, false, vec_len, vec_capacity, IfOk, IfNone, IfSome, OnOk, OnErr};
+ghost use Rattle.sat_lits.specs.Steps.{IsFalsified};
 ghost use Rattle.sat_arena.specs.Trails.{true_in, marked, IsGrown};
 ghost use Rattle.sat_arena.specs.ArenaState.{clauses_of, among, is_satisfied, AreGrown};
 ghost use Rattle.sat_arena.specs.Deduced.{Deduces, IsConflict};
 ghost use Rattle.sat_arena.specs.Guarded.{level_at, IsLast};
 ghost use Rattle.sat_arena.specs.Links.{IsLengthened};
 ghost use Rattle.sat_arena.specs.Stored.{Stored};
-ghost use Rattle.sat_arena.specs.Watches.{watch_of, may_watch, watches_after, KeepsWatches, AreTwoOf, IsAnyOf, MovesWatch};
+ghost use Rattle.sat_arena.specs.Watches.{clause_of, watch_of, may_watch, watches_after, KeepsWatches, AreTwoOf, IsAnyOf, MovesWatch};
 
+use crate::falsified::find_in_list;
 use crate::status::{WatchPair, only_or_any};
 use crate::stored::StoredClause;
 use crate::trail::Trail;
@@ -287,6 +289,27 @@ impl Arena {
         ensures { result ≡ slice_index_or (map (λ s. s.id) self.now.stored) at result }
     {
         self.clauses[at as usize].id()
+    }
+
+    /// The position of a clause that watches the literal, and each of whose literals is the negation of one of
+    /// the set. It goes through the list of the literal alone.
+    pub(crate) fn find_watching(&self, lit: Lit, literal_set: &[bool]) -> Option<u32>
+        ensures some { IfSome result (λ position. (position < length self.now.stored)
+            × IsFalsified (marked literal_set.now)
+            (slice_index_or (clauses_of self.now.stored) position [])) }
+        ensures none { IfNone result ((n : ℕ) → n < length self.now.watched
+            → watch_of self.now.watched n ≡ lit
+            → IsFalsified (marked literal_set.now) (clause_of (clauses_of self.now.stored) n) → ⊥) }
+    {
+        let _ = &self.alloc;
+        find_in_list(
+            &self.clauses,
+            &self.watched,
+            &self.links,
+            &self.heads,
+            lit,
+            literal_set,
+        )
     }
 
     /// Goes through the clauses that watch the literal that the entry at the head of the queue made

@@ -2,6 +2,7 @@
 #![tactic(auto)]
 
 mod arena;
+mod falsified;
 mod propagator;
 mod status;
 mod stored;

@@ -1,17 +1,18 @@
 //! Unit propagation: the clauses, the literals that are true, and the queue of those whose effect is still
 //! to be looked at.
-ghost use Rattle.std.specs.Prelude.{◌≡◌, ℕ, ◌+◌, ◌<◌, ◌≤◌, ◌^◌, ◌++◌, ◌∷◌, [], None, false, All, length, max, min, map, slice_index_or, IfOk, IfNone, IfSome, OnOk, OnErr};
+ghost use Rattle.std.specs.Prelude.{◌≡◌, ℕ, ◌+◌, ◌<◌, ◌≤◌, ◌^◌, ◌++◌, ◌∷◌, [], None, false, All, length, max, min, map, slice_index, slice_index_or, IfOk, IfNone, IfSome, OnOk, OnErr};
 ghost use Rattle.sat_lits.specs.Literals.{negation};
 ghost use Rattle.sat_lits.specs.Steps.{IsFalsified};
-ghost use Rattle.sat_arena.specs.Trails.{true_in, up_to, IsGrown, IsOrderly};
+ghost use Rattle.sat_arena.specs.Trails.{true_in, up_to, marked, IsGrown, IsOrderly};
 ghost use Rattle.sat_arena.specs.Settled.{IsSettled};
 ghost use Rattle.sat_arena.specs.Justified.{current_level};
-ghost use Rattle.sat_arena.specs.ArenaState.{clauses_of, AreGrown};
+ghost use Rattle.sat_arena.specs.ArenaState.{clauses_of, among, AreGrown};
 ghost use Rattle.sat_arena.specs.Deduced.{Deduces, IsConflict};
-ghost use Rattle.sat_arena.specs.Watches.{KeepsWatches};
+ghost use Rattle.sat_arena.specs.Watches.{clause_of, watch_of, KeepsWatches};
 ghost use Rattle.sat_arena.specs.PropagatorState.{AreCurrentFrom};
 
 use crate::arena::Arena;
+use crate::falsified::{find_falsified, is_falsified};
 use crate::status::{Status, status_of, watches_for};
 use crate::trail::{Assigned, Trail};
 use fsmv_base::{Id, NoMemory};
@@ -176,6 +177,24 @@ impl Propagator {
         }
     }
 
+    /// The position of a clause each literal of which is the negation of one of these. The set has a flag for
+    /// each of them, by its code. It goes through the lists of the clauses that watch a negation of theirs; only
+    /// once a clause was refuted it may go through all clauses.
+    pub fn find_falsified(&self, lits: &[Lit], literal_set: &[bool]) -> Option<u32>
+        requires { (l : ℕ) → marked literal_set.now l ≡ among lits.now l }
+        ensures some { IfSome result (λ position. (position < length self.now.stored)
+            × IsFalsified (marked literal_set.now)
+            (slice_index_or (clauses_of self.now.stored) position [])) }
+        ensures none { IfNone result
+            (All (λ clause. IsFalsified (marked literal_set.now) clause → ⊥)
+            (clauses_of self.now.stored)) }
+    {
+        match self.refuted {
+            Some(position) => find_from(&self.arena, position, literal_set),
+            None => find_watching_any(&self.arena, lits, literal_set),
+        }
+    }
+
     /// The clauses.
     pub fn arena(&self) -> &Arena
         ensures { result.now.stored ≡ self.now.stored }
@@ -199,6 +218,41 @@ impl Propagator {
     {
         self.trail.entries()
     }
+}
+
+/// The position of a clause each literal of which is the negation of one of the set. It looks at the one at
+/// the position first.
+fn find_from(arena: &Arena, position: u32, literal_set: &[bool]) -> Option<u32>
+    requires { position < length arena.now.stored }
+    ensures some { IfSome result (λ found. (found < length arena.now.stored)
+        × IsFalsified (marked literal_set.now)
+        (slice_index_or (clauses_of arena.now.stored) found [])) }
+    ensures none { IfNone result
+        (All (λ clause. IsFalsified (marked literal_set.now) clause → ⊥)
+        (clauses_of arena.now.stored)) }
+{
+    if is_falsified(arena.lits(position), literal_set) {
+        return Some(position);
+    }
+    find_falsified(arena, literal_set)
+}
+
+/// The position of such a clause among those that watch the negation of one of these literals.
+fn find_watching_any(arena: &Arena, lits: &[Lit], literal_set: &[bool]) -> Option<u32>
+    ensures some { IfSome result (λ position. (position < length arena.now.stored)
+        × IsFalsified (marked literal_set.now)
+        (slice_index_or (clauses_of arena.now.stored) position [])) }
+    ensures none { IfNone result ((k : ℕ) → k < length lits.now
+        → (n : ℕ) → n < length arena.now.watched
+        → watch_of arena.now.watched n ≡ negation (slice_index lits.now k)
+        → IsFalsified (marked literal_set.now) (clause_of (clauses_of arena.now.stored) n) → ⊥) }
+{
+    for lit in lits {
+        if let Some(position) = arena.find_watching(lit.negate(), literal_set) {
+            return Some(position);
+        }
+    }
+    None
 }
 
 /// Where the work on a queue ended.

@@ -2,7 +2,7 @@
 ghost use Rattle.std.specs.Prelude.{◌≡◌, ℕ, ◌+◌, ◌≤◌, ◌<◌, ◌^◌, ◌&&◌, true, false, not, [], ◌∷◌, ◌++◌, All, AllPairs, length, max, take, drop, OnOk, OnErr};
 ghost use Rattle.sat_lits.specs.Literals.{negation, variable_of};
 ghost use Rattle.sat_arena.specs.Trails.{true_in, up_to, marked, IsOrderly, IsPositionOf};
-ghost use Rattle.sat_arena.specs.Justified.{current_level};
+ghost use Rattle.sat_arena.specs.Justified.{current_level, HasPositions};
 ghost use Rattle.sat_arena.specs.Settled.{IsConsistent};
 
 use fsmv_base::NoMemory;
@@ -126,6 +126,23 @@ impl Trail {
         ensures { result ≡ true_in self.now.entries lit }
     {
         self.truth[lit.code() as usize]
+    }
+
+    /// Whether the literal is true, in constant time. One of a variable that may not be assigned is not.
+    pub fn has_true(&self, lit: Lit) -> bool
+        ensures { result ≡ true_in self.now.entries lit }
+    {
+        self.truth
+            .get(lit.code() as usize)
+            .copied()
+            .unwrap_or(false)
+    }
+
+    /// Where the entries of the assigned variables stand, by the variables' numbers.
+    pub fn positions(&self) -> &[u32]
+        ensures { HasPositions self.now.entries result.now }
+    {
+        &self.positions
     }
 
     /// The position of the entry of the literal's variable, in constant time. Where the variable is not

@@ -3,7 +3,7 @@
 //! Each clause has two watches, numbered twice its position and one more. The watches of one literal are
 //! a list: its head, and the link of each watch, are one more than the number of the next watch, and 0 at
 //! the end.
-ghost use Rattle.std.specs.Prelude.{◌≡◌, ℕ, ◌+◌, ◌*◌, ◌<◌, ◌≤◌, ◌^◌, ◌/◌, [], All, length, slice_index_or, slice_set, true, false, IfNone, IfSome};
+ghost use Rattle.std.specs.Prelude.{◌≡◌, ℕ, ◌+◌, ◌*◌, ◌<◌, ◌≤◌, ◌^◌, ◌/◌, [], All, Contains, length, slice_index_or, slice_set, true, false, IfNone, IfSome};
 ghost use Rattle.sat_lits.specs.Literals.{negation};
 ghost use Rattle.sat_arena.specs.Stored.{Stored};
 ghost use Rattle.sat_arena.specs.ArenaState.{clauses_of, AreGrown};
@@ -43,16 +43,23 @@ pub fn visit(
     ensures next { IfSome result (λ l. 1 < length (clause_of (clauses_of clauses.now) watch)
         → MayWatch trail.new.entries head (clause_of (clauses_of clauses.now) watch)
         (negation entry.now.lit) (watch_of watched.now (negation watch)) l) }
+    ensures held { IfSome result (λ l. 0 < length (clause_of (clauses_of clauses.now) watch)
+        → Contains (clause_of (clauses_of clauses.now) watch) l) }
     ensures grown { IfSome result (λ l. l < 2 * trail.old.vars + 2) }
     ensures conflict { IfNone result (IsConflict (clauses_of clauses.now) trail.new.entries
         (watch / 2)) }
 {
     let falsified = entry.lit.negate();
+    let other = watched[other_watch(watch)];
+
+    // Most visits end here, without a look at the clause.
+    if trail.has_true(other) {
+        return Some(falsified);
+    }
     let lits = clauses[watch / 2].lits();
     if lits.len() < 2 {
         return Some(falsified);
     }
-    let other = watched[other_watch(watch)];
     match choose(trail, lits, other) {
         Choice::Stay => Some(falsified),
         Choice::Move(lit) => Some(lit),

@@ -16,20 +16,25 @@ ghost use Rattle.sat_search.specs.Endings.{IsEnd, Records, EndsBy, Refutes, IsRe
 use crate::answer::Answer;
 use crate::solver::Solver;
 use fsmv_base::{Id, NoMemory};
-use sat_analyze::Learnt;
+use sat_analyze::{Analyzer, Learnt};
 use sat_lits::{Clause, Lit};
-use std::alloc::Global;
 
 impl Solver {
     /// The answer that needs no more lines: a clause that holds only negated assumptions, or else that
     /// the log has as many lines as are allowed.
-    pub fn known_answer(&self, literal_set: &[bool], most: u32) -> Option<Answer>
-        requires { IsSolver self.now }
+    pub fn known_answer(
+        &self,
+        assumptions: &[Lit],
+        literal_set: &[bool],
+        most: u32,
+    ) -> Option<Answer>
+        requires solver { IsSolver self.now }
+        requires literal_set { (l : ℕ) → marked literal_set.now l ≡ assumed assumptions.now l }
         ensures some { IfSome result (IsEnd (marked literal_set.now) self.now.log most) }
         ensures none { IfNone result (NoneIsFalsifiedUnder (marked literal_set.now) self.now.log) }
         ensures room { IfNone result (length self.now.log.lines < most) }
     {
-        if let Some(position) = self.find_core(literal_set) {
+        if let Some(position) = self.find_core(assumptions, literal_set) {
             let id = self.id_at(position);
             return Some(Answer::Core { id });
         }
@@ -70,34 +75,38 @@ impl Solver {
     /// The answer where an assumption is false: the clause of the assumptions that make it so.
     pub fn refuse(
         &mut self,
-        alloc: Global,
+        analyzer: &mut Analyzer,
+        assumptions: &[Lit],
         literal_set: &[bool],
         most: u32,
         lit: Lit,
     ) -> Result<Answer, NoMemory>
         requires solver { IsSolver self.old }
+        requires literal_set { (l : ℕ) → marked literal_set.now l ≡ assumed assumptions.now l }
         requires refused { IsRefused (marked literal_set.now) self.old.propagator.entries lit }
         ensures vars { self.new.propagator.vars ≡ self.old.propagator.vars }
         ensures solver { OnOk result (IsSolver self.new) }
         ensures ok { IfOk result (EndsBy (marked literal_set.now) self.old.log self.new.log most) }
         ensures err { OnErr result (self.new.log ≡ self.old.log) }
     {
-        if let Some(answer) = self.known_answer(literal_set, most) {
+        if let Some(answer) = self.known_answer(assumptions, literal_set, most) {
             return Ok(answer);
         }
-        let learnt = self.explain(alloc, lit)?;
+        let learnt = self.explain(analyzer, lit)?;
         self.conclude(literal_set, most, &learnt)
     }
 
     /// The answer where a clause is false at level 0: the empty clause.
     pub fn refute(
         &mut self,
-        alloc: Global,
+        analyzer: &mut Analyzer,
+        assumptions: &[Lit],
         literal_set: &[bool],
         most: u32,
         position: u32,
     ) -> Result<Answer, NoMemory>
         requires solver { IsSolver self.old }
+        requires literal_set { (l : ℕ) → marked literal_set.now l ≡ assumed assumptions.now l }
         requires root { current_level self.old.propagator.entries ≡ 0 }
         requires conflict { IsNewConflict self.old position }
         ensures vars { self.new.propagator.vars ≡ self.old.propagator.vars }
@@ -105,10 +114,10 @@ impl Solver {
         ensures ok { IfOk result (EndsBy (marked literal_set.now) self.old.log self.new.log most) }
         ensures err { OnErr result (self.new.log ≡ self.old.log) }
     {
-        if let Some(answer) = self.known_answer(literal_set, most) {
+        if let Some(answer) = self.known_answer(assumptions, literal_set, most) {
             return Ok(answer);
         }
-        let learnt = self.learn(alloc, position)?;
+        let learnt = self.learn(analyzer, position)?;
         self.conclude(literal_set, most, &learnt)
     }
 

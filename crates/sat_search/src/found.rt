@@ -13,6 +13,7 @@ use crate::answer::Answer;
 use crate::cores::literal_set_of;
 use crate::solver::Solver;
 use fsmv_base::NoMemory;
+use sat_analyze::Analyzer;
 use sat_arena::Trail;
 use sat_lits::Lit;
 use std::alloc::Global;
@@ -29,6 +30,7 @@ impl Solver {
     pub fn find(
         &mut self,
         alloc: Global,
+        analyzer: &mut Analyzer,
         assumptions: &[Lit],
         most: u32,
         vars: u32,
@@ -46,7 +48,7 @@ impl Solver {
         ensures err { OnErr result (AddsLines assumptions.now self.old.log self.new.log most None) }
     {
         let literal_set = literal_set_of(alloc, assumptions, vars)?;
-        let answer = self.run(alloc, assumptions, &literal_set, most)?;
+        let answer = self.run(analyzer, assumptions, &literal_set, most)?;
         with_values(alloc, self.propagator.trail(), vars, answer)
     }
 }

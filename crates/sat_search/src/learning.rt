@@ -2,7 +2,7 @@
 ghost use Rattle.std.specs.Prelude.{◌≡◌, ℕ, ◌<◌, ◌≤◌, length, List, IfOk, IfSome, IfNone, OnOk, OnErr};
 ghost use Rattle.sat_arena.specs.Trails.{marked};
 ghost use Rattle.sat_arena.specs.Justified.{current_level};
-ghost use Rattle.sat_search.specs.Assumed.{AssumesFirst};
+ghost use Rattle.sat_search.specs.Assumed.{assumed, AssumesFirst};
 ghost use Rattle.sat_search.specs.Solvers.{IsSolver};
 ghost use Rattle.sat_search.specs.LoopEnds.{IsNewConflict};
 ghost use Rattle.sat_search.specs.Endings.{AddsNewLine, EndsBy};
@@ -10,20 +10,23 @@ ghost use Rattle.sat_search.specs.Endings.{AddsNewLine, EndsBy};
 use crate::answer::Answer;
 use crate::solver::Solver;
 use fsmv_base::NoMemory;
-use std::alloc::Global;
+use sat_analyze::Analyzer;
+use sat_lits::Lit;
 
 impl Solver {
     /// Learns from the false clause at the position and goes back, or answers where that is not possible or
     /// not allowed: at level 0, and where the log has as many lines as it may have.
     pub fn meet_conflict(
         &mut self,
-        alloc: Global,
+        analyzer: &mut Analyzer,
+        assumptions: &[Lit],
         literal_set: &[bool],
         most: u32,
         position: u32,
         restart: bool,
     ) -> Result<Option<Answer>, NoMemory>
         requires solver { IsSolver self.old }
+        requires literal_set { (l : ℕ) → marked literal_set.now l ≡ assumed assumptions.now l }
         requires conflict { IsNewConflict self.old position }
         ensures vars { self.new.propagator.vars ≡ self.old.propagator.vars }
         ensures solver { OnOk result (IsSolver self.new) }
@@ -36,13 +39,13 @@ impl Solver {
         ensures err { OnErr result (self.new.log ≡ self.old.log) }
     {
         if self.propagator.trail().level() == 0 {
-            let answer = self.refute(alloc, literal_set, most, position)?;
+            let answer = self.refute(analyzer, assumptions, literal_set, most, position)?;
             return Ok(Some(answer));
         }
         if self.log.derived() >= most {
-            return Ok(self.known_answer(literal_set, most));
+            return Ok(self.known_answer(assumptions, literal_set, most));
         }
-        self.learn_from(alloc, most, position, restart)?;
+        self.learn_from(analyzer, most, position, restart)?;
         Ok(None)
     }
 
@@ -50,7 +53,7 @@ impl Solver {
     /// learnt clause forces a literal, or to level 0.
     fn learn_from(
         &mut self,
-        alloc: Global,
+        analyzer: &mut Analyzer,
         most: u32,
         position: u32,
         restart: bool,
@@ -66,8 +69,8 @@ impl Solver {
         ensures ok { OnOk result (AddsNewLine self.old.log self.new.log most) }
         ensures err { OnErr result (self.new.log ≡ self.old.log) }
     {
-        let learnt = self.learn(alloc, position)?;
-        self.order.bump(learnt.clause.lits());
+        let learnt = self.learn(analyzer, position)?;
+        self.order.bump(analyzer.met());
         self.back(back_level(learnt.level, restart));
         self.record(&learnt.clause, learnt.hints.as_slice())?;
         Ok(())

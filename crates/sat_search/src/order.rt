@@ -22,8 +22,8 @@ const SCALE: u32 = 30;
 
 /// The variables by their activity, in a heap, and the value that each had last, TRUE at first.
 ///
-/// The activity of a variable rises with each learnt clause in which it stands, by a step that itself
-/// grows, so that later clauses count for more. Each unassigned variable stands in the heap, and some
+/// The activity of a variable rises with each conflict whose analysis meets it, by a step that itself grows,
+/// so that later conflicts count for more. Each unassigned variable stands in the heap, and some
 /// assigned ones may. A variable's row in the tables is one less than its number.
 ///
 /// Contracts see the greatest variable alone: which one is decided is free.
@@ -122,15 +122,18 @@ impl Order {
         }
     }
 
-    /// Raises the activity of the literals' variables, and the step by which the next ones rise.
+    /// Raises the activity of the literals' variables that there are, and the step by which the next ones
+    /// rise, so that activities decay by a twentieth.
     pub fn bump(&mut self, lits: &[Lit])
-        requires { All (IsGrown self.old) lits.now }
         ensures { self.new ≡ self.old }
     {
         for lit in lits {
-            self.raise(lit.var() - 1);
+            let row = lit.var() - 1;
+            if row < self.vars {
+                self.raise(row);
+            }
         }
-        self.step = self.step.saturating_add(self.step / 16);
+        self.step = self.step.saturating_add(self.step / 19);
         if self.step > LAST_STEP {
             self.step >>= SCALE;
             scale_down(self.activities.as_mut_slice());

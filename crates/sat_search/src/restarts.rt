@@ -1,7 +1,7 @@
 //! When a search begins anew from level 0.
 
 /// How many conflicts the shortest run has.
-const UNIT: u64 = 64;
+const UNIT: u64 = 100;
 
 /// Runs between restarts whose lengths follow the Luby sequence 1, 1, 2, 1, 1, 2, 4, .. in units.
 #[derive(Drop)]

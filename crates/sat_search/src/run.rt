@@ -11,15 +11,15 @@ use crate::decide_loop::LoopEnd;
 use crate::restarts::Restarts;
 use crate::solver::Solver;
 use fsmv_base::NoMemory;
+use sat_analyze::Analyzer;
 use sat_lits::Lit;
-use std::alloc::Global;
 
 impl Solver {
     /// Searches until there is a model, which then is on the trail, or an answer without one. The
     /// assumptions' literals are is_set_of.
     pub fn run(
         &mut self,
-        alloc: Global,
+        analyzer: &mut Analyzer,
         assumptions: &[Lit],
         literal_set: &[bool],
         most: u32,
@@ -39,7 +39,7 @@ impl Solver {
         loop {
             let restart = restarts.count();
             if let Some(answer) = self.search_round(
-                alloc,
+                analyzer,
                 assumptions,
                 literal_set,
                 most,
@@ -53,7 +53,7 @@ impl Solver {
     /// Descends, and meets the conflict that this ends at, or answers.
     fn search_round(
         &mut self,
-        alloc: Global,
+        analyzer: &mut Analyzer,
         assumptions: &[Lit],
         literal_set: &[bool],
         most: u32,
@@ -78,10 +78,17 @@ impl Solver {
         match self.decide_all(assumptions)? {
             LoopEnd::Model => Ok(Some(Answer::Model)),
             LoopEnd::Refused(lit) => {
-                let answer = self.refuse(alloc, literal_set, most, lit)?;
+                let answer = self.refuse(analyzer, assumptions, literal_set, most, lit)?;
                 Ok(Some(answer))
             }
-            LoopEnd::Conflict(at) => self.meet_conflict(alloc, literal_set, most, at, restart),
+            LoopEnd::Conflict(at) => self.meet_conflict(
+                analyzer,
+                assumptions,
+                literal_set,
+                most,
+                at,
+                restart,
+            ),
         }
     }
 }

@@ -10,6 +10,7 @@ use crate::answer::Answer;
 use crate::solver::Solver;
 use fsmv_base::NoMemory;
 use proof_log::Log;
+use sat_analyze::Analyzer;
 use sat_lits::{Clause, Lit};
 use std::alloc::Global;
 use std::marker::Model;
@@ -25,6 +26,7 @@ use std::marker::Model;
 pub struct Session {
     alloc: Global,
     solver: Solver,
+    analyzer: Analyzer,
     axioms: u32,
     vars: u32,
     asked: u64,
@@ -67,6 +69,7 @@ impl Session {
         Session {
             alloc,
             solver: Solver::new(alloc),
+            analyzer: Analyzer::new(alloc),
             axioms: 0,
             vars: 0,
             asked: 0,
@@ -152,7 +155,10 @@ impl Session {
             return Err(NoMemory);
         }
         let alloc = self.alloc;
-        match self.solver.find(alloc, assumptions, most, self.vars) {
+        match self
+            .solver
+            .find(alloc, &mut self.analyzer, assumptions, most, self.vars)
+        {
             Ok(found) => {
                 self.model = found.values;
                 Ok(found.answer)

@@ -1,20 +1,59 @@
-use Rattle.std.proofs.Common.{◌≡◌, ℕ, ◌+◌, ◌*◌, ◌<◌, ◌≤◌, ◌/◌, true, false, [], length, ap, sym, ◌∙◌, subst, refl, arith, List, ◌∷◌, ◌++◌, inl, inr}
+use Rattle.std.proofs.Common.{◌≡◌, ℕ, ◌+◌, ◌*◌, ◌<◌, ◌≤◌, ◌/◌, true, false, [], length, ap, sym, ◌∙◌, subst, refl, arith, get_or, List, ◌∷◌, ◌++◌, inl, inr}
 use Rattle.std.specs.Prelude.{All, Contains}
 use Rattle.std.proofs.lemmas.List.{get_or_read, length-map}
+use Rattle.std.proofs.lemmas.List.Elements.{All-contains}
 use Rattle.sat_lits.specs.Literals.{negation}
 use Rattle.sat_lits.specs.Steps.{Forces, IsFalsified}
 use Rattle.sat_arena.specs.declared.trail.Assigned.{Assigned}
-use Rattle.sat_arena.specs.Trails.{true_in}
+use Rattle.sat_arena.specs.Trails.{true_in, IsGrown}
 use Rattle.sat_arena.specs.Settled.{HasTrue}
 use Rattle.sat_arena.specs.Deduced.{Deduces, nothing}
-use Rattle.sat_arena.specs.ArenaState.{clauses_of}
+use Rattle.sat_arena.specs.Stored.{Stored}
+use Rattle.sat_arena.specs.ArenaState.{clauses_of, AreGrown}
 use Rattle.sat_arena.specs.Watches.{clause_of, watch_of, KeepsWatches, MayWatch}
 use Rattle.sat_arena.proofs.DeducedLemmas.{Deduces-push, clause_at}
-use Rattle.sat_arena.proofs.WatchLemmas.{KeepsWatches-push, MayWatch-open, stay_at, stay_forced, true_at, is_in_clause}
+use Rattle.sat_arena.proofs.WatchLemmas.{KeepsWatches-push, MayWatch-open, stay_at, stay_forced, held_at, true_at, is_in_clause}
 use Rattle.sat_arena.proofs.visit.visit.Goals as goal
 
 pub returns-then-lits-lt2-clause-deduced : goal.returns-then-lits-lt2-clause-deduced
 returns-then-lits-lt2-clause-deduced c = nothing
+
+pub returns-then-has_true-clause-deduced : goal.returns-then-has_true-clause-deduced
+returns-then-has_true-clause-deduced c = nothing
+
+pub returns-then-has_true-clause-next : goal.returns-then-has_true-clause-next
+returns-then-has_true-clause-next c more =
+    let other_within : c.other_watch.result < length c.args.watched.now = omega (arith, c.requires.keeps.two_each, c.requires.watch, c.other_watch.ensures) in
+    let other : c.index-watched-other_watch.result ≡ watch_of c.args.watched.now (negation c.args.watch)
+    = get_or_read c.args.watched.now c.other_watch.result c.index-watched-other_watch.result other_within c.index-watched-other_watch.is 0 ∙ ap (watch_of c.args.watched.now) c.other_watch.ensures in
+    stay_at c.args.trail.now.entries c.args.head c.args.entry.now (clauses_of c.args.clauses.now) c.args.watched.now c.args.watch c.negate-falsified.result c.requires.keeps c.requires.watch c.requires.watches c.requires.stands c.requires.current_level c.negate-falsified.ensures.negation
+    (record {
+      literal = watch_of c.args.watched.now (negation c.args.watch);
+      holds = is_in_clause c.args.trail.now.entries c.args.head (clauses_of c.args.clauses.now) c.args.watched.now c.args.watch c.requires.keeps c.requires.watch (omega arith);
+      is_true = ap (true_in c.args.trail.now.entries) (sym other) ∙ sym c.has_true.ensures ∙ c.if-has_true.true;
+    }) more
+
+-- the literals of a clause are grown, as they are read
+grown_at : (stored : List Stored) (lits : List ℕ) (here : Stored) (position vars : ℕ) → position < length stored → lits ≡ here.clause → here ≡ get_or stored position here → AreGrown vars (clauses_of stored) → All (IsGrown vars) lits
+grown_at stored lits here position vars within read at grown =
+    subst (λ (xs : List ℕ). All (IsGrown vars) xs) (clause_at stored position here within ∙ ap (λ s. s.clause) (sym at) ∙ sym read) (grown position [] (omega (arith, within, length-map stored (λ s. s.clause))))
+
+pub choose-requires-clause-grown : goal.choose-requires-clause-grown
+choose-requires-clause-grown c =
+    grown_at c.args.clauses.now c.lits-lits.result.now c.index-clauses-watch.result (c.args.watch / 2) c.args.trail.now.vars (omega (arith, c.requires.keeps.two_each, c.requires.watch, length-map c.args.clauses.now (λ s. s.clause))) c.lits-lits.ensures.same c.index-clauses-watch.is c.requires.grown
+
+pub push-requires-clause-grown : goal.push-requires-clause-grown
+push-requires-clause-grown c =
+    (All-contains (IsGrown c.args.trail.now.vars) c.lits-lits.result.now c.in-Forcing.lit
+    (grown_at c.args.clauses.now c.lits-lits.result.now c.index-clauses-watch.result (c.args.watch / 2) c.args.trail.now.vars (omega (arith, c.requires.keeps.two_each, c.requires.watch, length-map c.args.clauses.now (λ s. s.clause))) c.lits-lits.ensures.same c.index-clauses-watch.is c.requires.grown)
+    c.in-Forcing.ensures.holds).1
+
+pub returns-in-Move-clause-grown : goal.returns-in-Move-clause-grown
+returns-in-Move-clause-grown c =
+    let grown = All-contains (IsGrown c.args.trail.now.vars) c.lits-lits.result.now c.in-Move.lit
+    (grown_at c.args.clauses.now c.lits-lits.result.now c.index-clauses-watch.result (c.args.watch / 2) c.args.trail.now.vars (omega (arith, c.requires.keeps.two_each, c.requires.watch, length-map c.args.clauses.now (λ s. s.clause))) c.lits-lits.ensures.same c.index-clauses-watch.is c.requires.grown)
+    c.in-Move.ensures.0 in
+    omega (arith, grown.1)
 
 pub choose-requires-clause-holds : goal.choose-requires-clause-holds
 choose-requires-clause-holds c =
@@ -23,10 +62,10 @@ choose-requires-clause-holds c =
     let other_within : c.other_watch.result < length c.args.watched.now = omega (arith, c.requires.keeps.two_each, c.requires.watch, c.other_watch.ensures) in
     let other : c.index-watched-other_watch.result ≡ watch_of c.args.watched.now (negation c.args.watch)
     = get_or_read c.args.watched.now c.other_watch.result c.index-watched-other_watch.result other_within c.index-watched-other_watch.is 0 ∙ ap (watch_of c.args.watched.now) c.other_watch.ensures in
-    let more : 1 < length c.lits-lits.result.now = omega arith in
+    let more : 0 < length c.lits-lits.result.now = omega arith in
     subst (λ (x : ℕ). Contains c.lits-lits.result.now x) (sym other)
     (subst (λ (xs : List ℕ). Contains xs (watch_of c.args.watched.now (negation c.args.watch))) (sym lits)
-    (is_in_clause c.args.trail.now.entries c.args.head (clauses_of c.args.clauses.now) c.args.watched.now c.args.watch c.requires.keeps c.requires.watch (subst (λ (xs : List ℕ). 1 < length xs) lits more)))
+    (is_in_clause c.args.trail.now.entries c.args.head (clauses_of c.args.clauses.now) c.args.watched.now c.args.watch c.requires.keeps c.requires.watch (subst (λ (xs : List ℕ). 0 < length xs) lits more)))
 
 pub returns-in-Stay-clause-deduced : goal.returns-in-Stay-clause-deduced
 returns-in-Stay-clause-deduced c = nothing
@@ -82,3 +121,25 @@ returns-in-Falsified-clause-conflict c =
     let position : c.args.watch / 2 < length c.args.clauses.now = omega (arith, c.requires.keeps.two_each, c.requires.watch, length-map c.args.clauses.now (λ s. s.clause)) in
     let lits : c.lits-lits.result.now ≡ clause_of (clauses_of c.args.clauses.now) c.args.watch = c.lits-lits.ensures.same ∙ ap (λ s. s.clause) (get_or_read c.args.clauses.now (c.args.watch / 2) c.index-clauses-watch.result position c.index-clauses-watch.is c.index-clauses-watch.result) ∙ sym (clause_at c.args.clauses.now (c.args.watch / 2) c.index-clauses-watch.result position) in
     (omega (arith, position, length-map c.args.clauses.now (λ s. s.clause)), subst (λ (xs : List ℕ). IsFalsified (true_in c.args.trail.now.entries) xs) lits c.in-Falsified.ensures)
+
+pub returns-then-has_true-clause-held : goal.returns-then-has_true-clause-held
+returns-then-has_true-clause-held c some =
+    held_at c.args.trail.now.entries c.args.head (clauses_of c.args.clauses.now) c.args.watched.now c.args.watch (negation c.args.entry.now.lit) c.negate-falsified.result c.requires.keeps c.requires.watch c.requires.watches c.negate-falsified.ensures.negation some
+
+pub returns-then-lits-lt2-clause-held : goal.returns-then-lits-lt2-clause-held
+returns-then-lits-lt2-clause-held c some =
+    held_at c.args.trail.now.entries c.args.head (clauses_of c.args.clauses.now) c.args.watched.now c.args.watch (negation c.args.entry.now.lit) c.negate-falsified.result c.requires.keeps c.requires.watch c.requires.watches c.negate-falsified.ensures.negation some
+
+pub returns-in-Stay-clause-held : goal.returns-in-Stay-clause-held
+returns-in-Stay-clause-held c some =
+    held_at c.args.trail.now.entries c.args.head (clauses_of c.args.clauses.now) c.args.watched.now c.args.watch (negation c.args.entry.now.lit) c.negate-falsified.result c.requires.keeps c.requires.watch c.requires.watches c.negate-falsified.ensures.negation some
+
+pub returns-in-Forcing-clause-held : goal.returns-in-Forcing-clause-held
+returns-in-Forcing-clause-held c some =
+    held_at c.args.trail.now.entries c.args.head (clauses_of c.args.clauses.now) c.args.watched.now c.args.watch (negation c.args.entry.now.lit) c.negate-falsified.result c.requires.keeps c.requires.watch c.requires.watches c.negate-falsified.ensures.negation some
+
+pub returns-in-Move-clause-held : goal.returns-in-Move-clause-held
+returns-in-Move-clause-held c some =
+    let position : c.args.watch / 2 < length c.args.clauses.now = omega (arith, c.requires.keeps.two_each, c.requires.watch, length-map c.args.clauses.now (λ s. s.clause)) in
+    let lits : c.lits-lits.result.now ≡ clause_of (clauses_of c.args.clauses.now) c.args.watch = c.lits-lits.ensures.same ∙ ap (λ s. s.clause) (get_or_read c.args.clauses.now (c.args.watch / 2) c.index-clauses-watch.result position c.index-clauses-watch.is c.index-clauses-watch.result) ∙ sym (clause_at c.args.clauses.now (c.args.watch / 2) c.index-clauses-watch.result position) in
+    subst (λ (xs : List ℕ). Contains xs c.in-Move.lit) lits c.in-Move.ensures.0

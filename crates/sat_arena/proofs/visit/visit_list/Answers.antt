@@ -54,7 +54,7 @@ loop-pending-preserved c =
       vars = c.visit-found.ensures.vars ∙ c.loop-pending.invariant.vars;
       deduced = Deduces-join (clauses_of c.args.clauses.now) c.args.entry.now.level c.args.trail.now.entries c.loop-pending.trail.entries c.visit-found.new.trail.entries c.loop-pending.invariant.deduced c.visit-found.ensures.deduced;
       keeps = subst (λ (ws : List ℕ). KeepsWatches c.visit-found.new.trail.entries c.args.head (clauses_of c.args.clauses.now) ws) (sym c.put_first.ensures.watched)
-          (KeepsWatches-moved c.visit-found.new.trail.entries c.args.head (clauses_of c.args.clauses.now) c.loop-pending.watched (c.loop-pending.pending - 1) (negation c.args.entry.now.lit) c.in-Some.lit c.visit-found.ensures.keeps (first_watched c.loop-pending.links c.loop-pending.heads c.loop-pending.watched c.loop-pending.invariant.walking.pending (negation c.args.entry.now.lit) c.loop-pending.pending c.loop-pending.invariant.walking.listed (omega arith)) c.in-Some.ensures.next);
+          (KeepsWatches-moved c.visit-found.new.trail.entries c.args.head (clauses_of c.args.clauses.now) c.loop-pending.watched (c.loop-pending.pending - 1) (negation c.args.entry.now.lit) c.in-Some.lit c.visit-found.ensures.keeps (first_watched c.loop-pending.links c.loop-pending.heads c.loop-pending.watched c.loop-pending.invariant.walking.pending (negation c.args.entry.now.lit) c.loop-pending.pending c.loop-pending.invariant.walking.listed (omega arith)) c.in-Some.ensures.held c.in-Some.ensures.next);
       within = subst (λ (ws : List ℕ). All (λ (w : ℕ). w < length c.put_first.new.heads) ws) (sym c.put_first.ensures.watched)
           (subst (λ (n : ℕ). All (λ (w : ℕ). w < n) (set c.loop-pending.watched (c.loop-pending.pending - 1) c.in-Some.lit)) (sym c.put_first.auto.heads)
           (All-set (λ (w : ℕ). w < length c.loop-pending.heads) c.loop-pending.watched (c.loop-pending.pending - 1) c.in-Some.lit

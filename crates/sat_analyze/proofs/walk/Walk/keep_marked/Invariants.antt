@@ -8,4 +8,8 @@ invariant-loop-position l = record {
   more : KeepsMore l.entries l.keeping l.from l.fn.self.kept.items l.self;
   start : l.self.marks.start ≡ l.fn.self.marks.start;
   apart : l.from ≤ l.fn.self.marks.lowest → l.from ≤ l.self.marks.lowest;
+  low : l.position ≤ l.from;
 }
+
+abbrev pub decreases-loop-position : goal.decreases-loop-position
+decreases-loop-position l = l.position

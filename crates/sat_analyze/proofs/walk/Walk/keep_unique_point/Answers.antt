@@ -19,7 +19,7 @@ returns-in_ok-keep_lit c =
     let walk = c.loop-self.self in
     let here = c.index-entries-self.result in
     let at : IsEntryAt c.args.entries.now walk.marks.lowest here = (omega (arith, c.if-self-position.true, old.walk.within), sym c.index-entries-self.is) in
-    KeepsPoint-kept c.args.arena.now.stored c.args.entries.now c.loop-self.position here c.args.self.now walk c.keep_lit.new.self c.requires.none
+    KeepsPoint-kept c.args.arena.now.stored c.args.entries.now c.args.positions.now c.requires.positions c.loop-self.position here c.args.self.now walk c.keep_lit.new.self c.requires.none
     (record { walk = old.walk; kept = old.kept; level = old.level; start = old.start; below = old.below; lower = old.lower; still = old.still })
     c.if-self-position.true c.loop-self-test.false at
     (subst (λ (e : Assigned). KeepsLit e.lit walk c.keep_lit.new.self) (sym c.index-entries-self.is) c.in_ok-keep_lit.ensures)

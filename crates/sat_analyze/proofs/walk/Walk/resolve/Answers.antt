@@ -24,13 +24,13 @@ meet-requires-clause-within c =
 pub meet-requires-clause-positioned : goal.meet-requires-clause-positioned
 meet-requires-clause-positioned c =
     let at : IsEntryAt c.args.entries.now c.args.position c.index-entries-position.result = (omega (arith, c.requires.walk.within), sym c.index-entries-position.is) in
-    reason_positions c.args.arena.now.stored c.args.entries.now c.args.position c.index-entries-position.result c.unwrap-reason.result c.args.self.now.marks c.requires.walk.marks at
+    reason_positions c.args.arena.now.stored c.args.entries.now c.args.positions.now c.requires.positions c.args.position c.index-entries-position.result c.unwrap-reason.result c.args.self.now.marks c.requires.walk.marks at
     (has_reason c.args.arena.now.stored c.args.entries.now c.args.position c.index-entries-position.result c.unwrap-reason.result c.requires.justified at (ap (λ e. e.reason) c.index-entries-position.is ∙ c.unwrap-reason.ensures))
 
 pub returns : goal.returns
 returns c =
     let at : IsEntryAt c.args.entries.now c.args.position c.index-entries-position.result = (omega (arith, c.requires.walk.within), sym c.index-entries-position.is) in
     on_ok_weaker c.meet.result (λ meets.
-    Resolves-met c.args.arena.now.stored c.args.entries.now c.args.position c.index-entries-position.result c.unwrap-reason.result c.args.self.now c.meet.new.self at
+    Resolves-met c.args.arena.now.stored c.args.entries.now c.args.positions.now c.requires.positions c.args.position c.index-entries-position.result c.unwrap-reason.result c.args.self.now c.meet.new.self at
     (has_reason c.args.arena.now.stored c.args.entries.now c.args.position c.index-entries-position.result c.unwrap-reason.result c.requires.justified at (ap (λ e. e.reason) c.index-entries-position.is ∙ c.unwrap-reason.ensures))
     c.requires.walk meets) c.meet.ensures

@@ -28,9 +28,9 @@ followed_reason-requires-clause-within c =
 pub followed_reason-requires-clause-positioned : goal.followed_reason-requires-clause-positioned
 followed_reason-requires-clause-positioned c =
     let at : IsEntryAt c.args.entries.now c.args.position c.index-entries-position.result = (omega (arith, c.requires.walk.within), sym c.index-entries-position.is) in
-    if_some c.index-entries-position.result.reason (λ reason. ArePositioned c.args.self.now.marks.positions.items (length c.args.entries.now) (get_or (clauses_of c.args.arena.now.stored) reason [])) (λ reason is.
-    subst (λ (n : ℕ). ArePositioned c.args.self.now.marks.positions.items n (get_or (clauses_of c.args.arena.now.stored) reason [])) c.requires.walk.marks.sized
-    (reason_positions c.args.arena.now.stored c.args.entries.now c.args.position c.index-entries-position.result reason c.args.self.now.marks c.requires.walk.marks at
+    if_some c.index-entries-position.result.reason (λ reason. ArePositioned c.args.positions.now (length c.args.entries.now) (get_or (clauses_of c.args.arena.now.stored) reason [])) (λ reason is.
+    subst (λ (n : ℕ). ArePositioned c.args.positions.now n (get_or (clauses_of c.args.arena.now.stored) reason [])) c.requires.walk.marks.sized
+    (reason_positions c.args.arena.now.stored c.args.entries.now c.args.positions.now c.requires.positions c.args.position c.index-entries-position.result reason c.args.self.now.marks c.requires.walk.marks at
     (has_reason c.args.arena.now.stored c.args.entries.now c.args.position c.index-entries-position.result reason c.requires.justified at is)))
 
 pub meet-requires-clause-within : goal.meet-requires-clause-within
@@ -41,14 +41,14 @@ meet-requires-clause-within c =
 pub meet-requires-clause-positioned : goal.meet-requires-clause-positioned
 meet-requires-clause-positioned c =
     let at : IsEntryAt c.args.entries.now c.args.position c.index-entries-position.result = (omega (arith, c.requires.walk.within), sym c.index-entries-position.is) in
-    reason_positions c.args.arena.now.stored c.args.entries.now c.args.position c.index-entries-position.result c.in-Some.reason c.args.self.now.marks c.requires.walk.marks at
+    reason_positions c.args.arena.now.stored c.args.entries.now c.args.positions.now c.requires.positions c.args.position c.index-entries-position.result c.in-Some.reason c.args.self.now.marks c.requires.walk.marks at
     (has_reason c.args.arena.now.stored c.args.entries.now c.args.position c.index-entries-position.result c.in-Some.reason c.requires.justified at c.in-Some.ensures.some)
 
 pub returns-in-Some : goal.returns-in-Some
 returns-in-Some c =
     let at : IsEntryAt c.args.entries.now c.args.position c.index-entries-position.result = (omega (arith, c.requires.walk.within), sym c.index-entries-position.is) in
     on_ok_weaker c.meet.result (λ meets.
-    Steps-met c.args.arena.now.stored c.args.entries.now c.args.position c.index-entries-position.result c.args.keeping c.in-Some.reason c.args.self.now c.meet.new.self at
+    Steps-met c.args.arena.now.stored c.args.entries.now c.args.positions.now c.requires.positions c.args.position c.index-entries-position.result c.args.keeping c.in-Some.reason c.args.self.now c.meet.new.self at
     (has_reason c.args.arena.now.stored c.args.entries.now c.args.position c.index-entries-position.result c.in-Some.reason c.requires.justified at c.in-Some.ensures.some)
     (marked_read c.args.self.now.marks.seen.items c.args.position c.index.result.now (omega (arith, c.requires.walk.marks.sized, at.0)) c.index.ensures c.if-not-index.false)
     c.requires.walk meets) c.meet.ensures
@@ -57,6 +57,6 @@ pub returns-in-None : goal.returns-in-None
 returns-in-None c =
     let at : IsEntryAt c.args.entries.now c.args.position c.index-entries-position.result = (omega (arith, c.requires.walk.within), sym c.index-entries-position.is) in
     on_ok_weaker c.keep.result (λ new.
-    Steps-kept c.args.arena.now.stored c.args.entries.now c.args.position c.index-entries-position.result c.args.keeping c.args.self.now c.keep.new.self c.requires.justified at
+    Steps-kept c.args.arena.now.stored c.args.entries.now c.args.positions.now c.requires.positions c.args.position c.index-entries-position.result c.args.keeping c.args.self.now c.keep.new.self c.requires.justified at
     (marked_read c.args.self.now.marks.seen.items c.args.position c.index.result.now (omega (arith, c.requires.walk.marks.sized, at.0)) c.index.ensures c.if-not-index.false)
     c.in-None.ensures.decided c.in-None.ensures.root c.requires.walk new) c.keep.ensures

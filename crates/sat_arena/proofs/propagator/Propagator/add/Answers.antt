@@ -11,7 +11,7 @@ use Rattle.sat_arena.specs.Trails.{true_in, up_to, IsGrown}
 use Rattle.sat_arena.specs.Settled.{IsSettled}
 use Rattle.sat_arena.specs.Justified.{current_level}
 use Rattle.sat_arena.specs.Deduced.{Deduces, nothing}
-use Rattle.sat_arena.specs.Watches.{AreLatest}
+use Rattle.sat_arena.specs.Watches.{AreLatest, IsAnyOf}
 use Rattle.sat_arena.specs.PropagatorState.{IsPropagator, PropagatorState}
 use Rattle.sat_arena.proofs.LevelLaws.{current_level_is_greatest}
 use Rattle.sat_arena.proofs.DeducedLemmas.{Deduces-push}
@@ -36,6 +36,7 @@ invariant_of-self-in-Settled c =
     subst (λ (a : ArenaState). IsPropagator a.stored a.watched a.vars p.trail.entries p.trail.vars p.head p.refuted) (sym c.in_ok-position.ensures.ok)
     (IsPropagator-settled p.arena.stored s p.arena.watched p.arena.vars p.trail.vars p.head p.trail.entries p.refuted pair.first pair.second c.self.invariant c.entries-entries.ensures.orderly c.entries-entries.ensures.consistent
     (subst (λ (n : ℕ). All (IsGrown n) c.args.clause.now) (sym vars_is) c.requires.grown)
+    (subst (λ (xs : List ℕ). IsAnyOf xs pair.first) lits c.watches_for-pair.ensures.first) (subst (λ (xs : List ℕ). IsAnyOf xs pair.second) lits c.watches_for-pair.ensures.second)
     (subst (λ (xs : List ℕ). 1 < length xs → AreLatest p.trail.entries xs pair.first pair.second) lits c.watches_for-pair.ensures.latest)
     (subst (λ (es : List Assigned). (k : ℕ) → k < current_level es → IsSettled (true_in (up_to k es)) c.args.clause.now) (sym entries_is) c.requires.settled)
     (subst (λ (xs : List ℕ). IsSettled (true_in p.trail.entries) xs) lits c.in-Settled.ensures))
@@ -58,6 +59,7 @@ invariant_of-self-in-Forcing c =
     (subst (λ (t : TrailState). IsPropagator (p.arena.stored ++ s ∷ []) ((p.arena.watched ++ pair.first ∷ []) ++ pair.second ∷ []) p.arena.vars t.entries t.vars p.head p.refuted) (sym c.push.ensures)
     (IsPropagator-forced p.arena.stored s p.arena.watched p.arena.vars p.trail.vars p.head p.trail.entries p.refuted pair.first pair.second c.self.invariant c.entries-entries.ensures.orderly c.entries-entries.ensures.consistent
     (subst (λ (n : ℕ). All (IsGrown n) c.args.clause.now) (sym vars_is) c.requires.grown)
+    (subst (λ (xs : List ℕ). IsAnyOf xs pair.first) lits c.watches_for-pair.ensures.first) (subst (λ (xs : List ℕ). IsAnyOf xs pair.second) lits c.watches_for-pair.ensures.second)
     (subst (λ (xs : List ℕ). 1 < length xs → AreLatest p.trail.entries xs pair.first pair.second) lits c.watches_for-pair.ensures.latest)
     (subst (λ (es : List Assigned). (k : ℕ) → k < current_level es → IsSettled (true_in (up_to k es)) c.args.clause.now) (sym entries_is) c.requires.settled)
     entry (subst (λ (xs : List ℕ). Forces (true_in p.trail.entries) xs c.in-Forcing.lit) lits c.in-Forcing.ensures) c.level-level.ensures))
@@ -76,6 +78,7 @@ invariant_of-self-in-Falsified c =
     (subst (λ (n : ℕ). IsPropagator (p.arena.stored ++ s ∷ []) ((p.arena.watched ++ pair.first ∷ []) ++ pair.second ∷ []) p.arena.vars p.trail.entries p.trail.vars p.head (Some n)) (sym position)
     (IsPropagator-falsified p.arena.stored s p.arena.watched p.arena.vars p.trail.vars p.head p.trail.entries p.refuted pair.first pair.second c.self.invariant c.entries-entries.ensures.orderly c.entries-entries.ensures.consistent
     (subst (λ (n : ℕ). All (IsGrown n) c.args.clause.now) (sym vars_is) c.requires.grown)
+    (subst (λ (xs : List ℕ). IsAnyOf xs pair.first) lits c.watches_for-pair.ensures.first) (subst (λ (xs : List ℕ). IsAnyOf xs pair.second) lits c.watches_for-pair.ensures.second)
     (subst (λ (xs : List ℕ). 1 < length xs → AreLatest p.trail.entries xs pair.first pair.second) lits c.watches_for-pair.ensures.latest)
     (subst (λ (es : List Assigned). (k : ℕ) → k < current_level es → IsSettled (true_in (up_to k es)) c.args.clause.now) (sym entries_is) c.requires.settled)
     falsified (root (current_level p.trail.entries) (IsFalsified (true_in p.trail.entries) c.args.clause.now)

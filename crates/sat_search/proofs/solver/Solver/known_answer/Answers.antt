@@ -7,6 +7,6 @@ returns-in-Some-clause-some c =
     let stored = c.args.self.now.propagator.stored in
     record {
       clause = _;
-      names = id_names log stored c.in-Some.position c.id_at-id.result c.requires.keeps.names c.in-Some.ensures.some.0 c.id_at-id.ensures;
+      names = id_names log stored c.in-Some.position c.id_at-id.result c.requires.solver.keeps.names c.in-Some.ensures.some.0 c.id_at-id.ensures;
       false_there = c.in-Some.ensures.some.1;
     }

@@ -4,7 +4,7 @@ use Rattle.std.proofs.lemmas.List.Elements.{All-from_get_or}
 use Rattle.sat_lits.specs.Steps.{IsFalsified}
 use Rattle.sat_arena.specs.Trails.{marked}
 use Rattle.sat_arena.specs.ArenaState.{clauses_of}
-use Rattle.sat_search.proofs.cores.find_falsified.Goals as goal
+use Rattle.sat_arena.proofs.falsified.find_falsified.Goals as goal
 
 pub returns-clause-none : goal.returns-clause-none
 returns-clause-none c =
