@@ -1,0 +1,4 @@
+pub mod ListLemmas
+pub mod AssignLemmas
+pub mod ImposeLemmas
+pub mod Examples

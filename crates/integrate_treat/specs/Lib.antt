@@ -1,0 +1,4 @@
+pub mod TreatedExpr
+pub mod TreatedModel
+pub mod Target
+pub mod Treat
