@@ -13,10 +13,10 @@ use Rattle.smv_expr.specs.Language.{Tokens, next_of, begins, followed_by}
 use Rattle.smv_expr.specs.Reading.{Cause, Outcome, Reader, remaining_of, Alike, Gives}
 use Rattle.smv_expr.specs.Reading.Outcome.{Read, Stop}
 use Rattle.smv_expr.specs.Reading.Cause.{UnexpectedToken, Wide, Deep}
-use Rattle.smv_expr.specs.Answer.{unlimited, small, opens, expr_ends, HasTooManyOpen, IsText, StopsAt, IsViable, GoesOn, GoesOnWithin, AreWithin, Verdict, Answers, IsAnswered, IsResultOf, result_of, syntax_fault, IsFaultOf}
+use Rattle.smv_expr.specs.Answer.{unlimited, small, almost, opens, expr_ends, HasTooManyOpen, IsText, StopsAt, IsViable, GoesOn, GoesOnWithin, AreWithin, Verdict, Answers, IsAnswered, IsResultOf, result_of, syntax_fault, IsFaultOf}
 use Rattle.smv_expr.specs.Limits.{nesting_bound}
 use Rattle.smv_expr.specs.ExprReaders.{first_expr}
-use Rattle.smv_expr.proofs.Rules.{Good, Halts, Covers, Rule}
+use Rattle.smv_expr.proofs.Rules.{Good, Halts, Covers, Near, Rule}
 use Rattle.smv_expr.proofs.Words.{always}
 use Rattle.smv_expr.proofs.Limited.{Sim, AtWide, Beyond, LeavesSuffix, Fails, Obeys}
 use Rattle.smv_expr.proofs.Local.{Local, SameDots, put}
@@ -39,6 +39,7 @@ deep L a ts = (m : ℕ) × L m a ts
 -- what stands before the rest is viable, and what goes on from it with the next token is not
 record Ends {A : Type 0} (L : ℕ → A → Tokens → Type 0) (ts remaining : Tokens) : Type 0 where
   before : IsViable (deep L) ts remaining
+  near : before.viable.0 ≤ suc nesting_bound
   dead : GoesOn (deep L) before.prefix remaining → ⊥
 
 -- what stands before the rest goes on with the next token, but to nothing within the limit of open constructs
@@ -59,9 +60,10 @@ module _ {A : Type 0} (L : ℕ → A → Tokens → Type 0) (follow : List Kind)
   Plain ts (Stop Wide remaining) = Ends L ts remaining
   Plain ts (Stop Deep remaining) = NestsTooDeep L ts remaining
 
-  halts : (cause : Cause) (ts remaining : Tokens) → ((m : ℕ) → Covers nesting_bound cause remaining m) → ((y : Tokens) → next_of y ≡ next_of remaining → Alike cause y remaining) → Halts nesting_bound L (always follow) cause ts remaining → Ends L ts remaining
-  halts cause ts remaining covers alike w = record {
+  halts : (cause : Cause) (ts remaining : Tokens) → ((m : ℕ) → Covers nesting_bound cause remaining m) → ((y : Tokens) → next_of y ≡ next_of remaining → Alike cause y remaining) → ((m : ℕ) → Near cause nesting_bound remaining m → m ≤ suc nesting_bound) → Halts nesting_bound L (always follow) cause ts remaining → Ends L ts remaining
+  halts cause ts remaining covers alike near w = record {
     before = record { prefix = w.prefix; split = w.split; more = w.more; value = w.value; viable = (w.depth, w.viable) };
+    near = near w.depth w.near;
     dead = λ g. w.dead g.viable.0 g.more (w.prefix ++ g.more) [] g.value (covers g.viable.0) (alike g.more g.next) (append-nil (w.prefix ++ g.more)) g.viable.1 refl;
   }
 
@@ -72,10 +74,11 @@ module _ {A : Type 0} (L : ℕ → A → Tokens → Type 0) (follow : List Kind)
   }
   plain_of ts (Read a (t ∷ remaining)) w = record {
     before = record { prefix = w.prefix; split = w.split; more = []; value = a; viable = (nesting_bound, subst (λ (x : Tokens). L nesting_bound a x) (sym (append-nil w.prefix)) w.reads) };
+    near = omega arith;
     dead = λ g. let o = w.only g.viable.0 g.more (w.prefix ++ g.more) [] g.value g.next (append-nil (w.prefix ++ g.more)) g.viable.1 refl in no_next g.more t (sym o.2) g.next;
   }
-  plain_of ts (Stop UnexpectedToken remaining) w = halts UnexpectedToken ts remaining (λ m. tt) (λ y n. n) w
-  plain_of ts (Stop Wide remaining) w = halts Wide ts remaining (λ m. tt) (λ y n. n) w
+  plain_of ts (Stop UnexpectedToken remaining) w = halts UnexpectedToken ts remaining (λ m. tt) (λ y n. n) (λ m n. n) w
+  plain_of ts (Stop Wide remaining) w = halts Wide ts remaining (λ m. tt) (λ y n. n) (λ m n. n) w
   plain_of ts (Stop Deep remaining) w = record {
     before = record { prefix = w.prefix; split = w.split; more = w.more; value = w.value; viable = (w.depth, w.viable) };
     token = w.begun.0;
@@ -138,9 +141,12 @@ module _ {A : Type 0} (G : Bool → ℕ → A → Tokens → Type 0) (follow : L
   unfit ts remaining o (inl e) v = unfit_of ts (Stop Deep remaining) (subst (λ (x : Outcome A). Plain (G true) follow ts x) e v) tt
   unfit ts remaining o (inr h) v = unfit_of ts o v h.1
 
+  almost_viable : (ts remaining : Tokens) (s : Ends (G false) ts remaining) → almost G s.before.value (s.before.prefix ++ s.before.more)
+  almost_viable ts remaining s = (s.before.viable.0, s.near, s.before.viable.1)
+
   stops : (ts remaining : Tokens) → Ends (G false) ts remaining → Ends (G true) ts remaining → StopsAt G ts remaining
   stops ts remaining s l = record {
-    before = s.before;
+    before = record { prefix = s.before.prefix; split = s.before.split; more = s.before.more; value = s.before.value; viable = almost_viable ts remaining s };
     dead = λ g. l.dead (same_viable (G true) follow s.before.prefix l.before.prefix remaining (one_prefix ts s.before.prefix l.before.prefix remaining s.before.split l.before.split) g);
   }
 
@@ -183,7 +189,7 @@ module _ {A : Type 0} (G : Bool → ℕ → A → Tokens → Type 0) (follow : L
   by_reading ts (Stop UnexpectedToken remaining) s l near x y v u d = stops ts remaining (subst (λ (z : Outcome A). Plain (G false) follow ts z) x v) (subst (λ (z : Outcome A). Plain (G true) follow ts z) y u)
   by_reading ts (Stop Wide remaining) s l near x y v u d =
       let p : Ends (G false) ts remaining = subst (λ (z : Outcome A). Plain (G false) follow ts z) x.1 v in
-      record { wide = x.0; before = p.before; live = live ts remaining p.before.prefix l p.before.split y.1 u; dead = p.dead }
+      record { wide = x.0; before = record { prefix = p.before.prefix; split = p.before.split; more = p.before.more; value = p.before.value; viable = almost_viable ts remaining p }; live = live ts remaining p.before.prefix l p.before.split y.1 u; dead = p.dead }
   by_reading ts (Stop Deep remaining) s l near x y v u d = let b = at_deepest ts remaining s near x v in record { before = b.before; live = b.live; cause = b.cause; dead = d remaining b.before refl; unfit = unfit ts remaining l y u }
 
   -- ---- a text is read

@@ -44,8 +44,8 @@ module _ {A : Type 0} {F E : ℕ → A → Tokens → Type 0} (under : IsUnder F
   covers_less limit m Deep remaining u = omega (arith, u)
 
   near_more : (cause : Cause) (limit : ℕ) (remaining : Tokens) (depth : ℕ) → Near cause limit remaining depth → Near cause (suc limit) remaining (suc depth)
-  near_more UnexpectedToken limit remaining depth n = tt
-  near_more Wide limit remaining depth n = tt
+  near_more UnexpectedToken limit remaining depth n = omega (arith, n)
+  near_more Wide limit remaining depth n = omega (arith, n)
   near_more Deep limit remaining depth n = omega (arith, n)
 
   pub raised : (limit : ℕ) (g : A → List Kind) (ts : Tokens) (o : Outcome A) → Good limit F g ts o → Good (suc limit) E g ts o
@@ -104,7 +104,7 @@ module _ {A : Type 0} {F E : ℕ → A → Tokens → Type 0} (under : IsUnder F
       more = l.text;
       viable = l.reads;
       begun = tt;
-      near = tt;
+      near = omega (arith, l.shallow);
       dead = λ m y f r b u n e' h z. let e1 = begins-append first f r (starts.at m b f h) in let e2 = ap (begins first) e' ∙ begins-next first y ts n ∙ e in cc;
     }
 

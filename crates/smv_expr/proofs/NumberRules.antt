@@ -1,7 +1,7 @@
 -- Numerals and intervals, with and without a `-` before them. Where an interval may begin with a numeral, two tokens
 -- tell which it is.
 use Rattle.std.specs.Prelude.{if◌then◌else◌}
-use Rattle.std.proofs.Common.{◌≡◌, ℕ, Bool, true, false, ◌&&◌, ◌||◌, ℤ, pos, List, [], ◌∷◌, ◌++◌, Option, Some, None, refl, sym, ◌∙◌, ap, subst, inl, inr, cond, append-nil}
+use Rattle.std.proofs.Common.{◌≡◌, ℕ, Bool, true, false, ◌&&◌, ◌||◌, ℤ, pos, List, [], ◌∷◌, ◌++◌, Option, Some, None, refl, sym, ◌∙◌, ap, subst, arith, inl, inr, cond, append-nil}
 use Rattle.smv_ast.specs.declared.syntax.Span.{Span}
 use Rattle.smv_ast.specs.declared.syntax.Expr.{Expr}
 use Rattle.smv_ast.specs.declared.syntax.Expr.TheVariants as e
@@ -305,7 +305,7 @@ module _ {limit : ℕ} (any : Bool) {U : ℕ → Expr → Tokens → Type 0} {u 
     more = iu.lang.text;
     viable = inr (iu.lang.value, iu.lang.reads, refl);
     begun = tt;
-    near = tt;
+    near = omega (arith, iu.lang.shallow);
     dead = λ m y f r b u n q h z. bar_dead ts bar m y f r b n q h;
   })
 
@@ -337,7 +337,7 @@ at_depth_limit {A = A} {E = E} false first g inside under l starts lone small te
     more = l.text;
     viable = l.reads;
     begun = tt;
-    near = tt;
+    near = omega (arith, l.shallow);
     dead = λ m y f r b u n e t z. barred_apart false ts y f r e n (small m b f t) h;
   }
   by_wide ts false h = deepest under l first inside starts lone g ts (λ b. texts ts b h)

@@ -30,10 +30,11 @@ Covers limit UnexpectedToken remaining m = Unit {0}
 Covers limit Wide remaining m = Unit {0}
 Covers limit Deep remaining m = m ≤ limit + opens remaining
 
--- how deep the text nests that goes on where too many constructs are open: one more, and one that the next token opens
+-- how deep the text nests that goes on: one more than the limit; where too many constructs are open, the next token may open
+-- one
 abbrev pub Near : Cause → ℕ → Tokens → ℕ → Type 0
-Near UnexpectedToken limit remaining depth = Unit {0}
-Near Wide limit remaining depth = Unit {0}
+Near UnexpectedToken limit remaining depth = depth ≤ suc limit
+Near Wide limit remaining depth = depth ≤ suc limit
 Near Deep limit remaining depth = depth ≤ suc limit + opens remaining
 
 -- where too many constructs are open, what goes on begins with the next token, with which an expression begins
@@ -136,14 +137,14 @@ right_max m n = omega arith
 
 -- the limit, and a depth that is near it
 near_limit : (cause : Cause) (limit : ℕ) (remaining : Tokens) (depth : ℕ) → Near cause limit remaining depth → Near cause limit remaining (max limit depth)
-near_limit UnexpectedToken limit remaining depth n = tt
-near_limit Wide limit remaining depth n = tt
+near_limit UnexpectedToken limit remaining depth n = omega (arith, n)
+near_limit Wide limit remaining depth n = omega (arith, n)
 near_limit Deep limit remaining depth n = omega (arith, n)
 
 -- a depth that is near the limit, and that of a text in which nothing nests
 near_shallow : (cause : Cause) (limit : ℕ) (remaining : Tokens) (depth one : ℕ) → one ≤ 1 → Near cause limit remaining depth → Near cause limit remaining (max depth one)
-near_shallow UnexpectedToken limit remaining depth one s n = tt
-near_shallow Wide limit remaining depth one s n = tt
+near_shallow UnexpectedToken limit remaining depth one s n = omega (arith, s, n)
+near_shallow Wide limit remaining depth one s n = omega (arith, s, n)
 near_shallow Deep limit remaining depth one s n = omega (arith, s, n)
 
 module _ {A B : Type 0} (limit : ℕ) (L : ℕ → A → Tokens → Type 0) (M : A → ℕ → B → Tokens → Type 0) where
@@ -239,7 +240,7 @@ module _ {A : Type 0} (limit : ℕ) (f : Token → Option A) (l : IsLang (λ m. 
     more = l.text;
     viable = l.reads;
     begun = tt;
-    near = tt;
+    near = omega (arith, l.shallow);
     dead = λ m y g r b u n e w z. no_leaf ts y n none g r b e w;
   }
 

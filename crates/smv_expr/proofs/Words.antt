@@ -1,5 +1,5 @@
 -- The words in which the rules of a grammar are put together.
-use Rattle.std.proofs.Common.{◌≡◌, ℕ, ◌+◌, Bool, true, false, ◌||◌, ◌&&◌, List, [], ◌∷◌, ◌++◌, Option, Some, None, refl, sym, ◌∙◌, ap, subst, inl, inr, fold, cond}
+use Rattle.std.proofs.Common.{◌≡◌, ℕ, ◌+◌, Bool, true, false, ◌||◌, ◌&&◌, List, [], ◌∷◌, ◌++◌, Option, Some, None, refl, sym, ◌∙◌, ap, subst, arith, inl, inr, fold, cond}
 use Rattle.std.specs.Prelude.{is_some}
 use Rattle.smv_expr.specs.declared.kind.Kind.{Kind}
 use Rattle.smv_expr.specs.declared.kind.Kind.TheVariants as k
@@ -158,7 +158,7 @@ tok_digits {limit = limit} false = record { lang = lang; good = λ ts. by_wide t
     more = lang.text;
     viable = lang.reads;
     begun = tt;
-    near = tt;
+    near = omega (arith, lang.shallow);
     dead = λ m y f r b u n e w z. not_barred ts y f r e n ((starts_numeral (k.Numeral ∷ []) (within_itself k.Numeral)).at m b f w) h;
   })
   by_wide ts false h = subst (λ (o : Outcome (ℕ × Span)). Good limit (λ m. digits false) (λ a. []) ts o) (sym (narrow_digits ts h)) ((tok_numeral {limit = limit}).good ts)

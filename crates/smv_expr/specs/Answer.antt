@@ -28,6 +28,10 @@ unlimited G a ts = (m : ℕ) × G true m a ts
 abbrev pub small : {A : Type 0} → (Bool → ℕ → A → Tokens → Type 0) → A → Tokens → Type 0
 small G a ts = (m : ℕ) × G false m a ts
 
+-- the same, with a thousand and one constructs open at each point at most: one more than there may be
+abbrev pub almost : {A : Type 0} → (Bool → ℕ → A → Tokens → Type 0) → A → Tokens → Type 0
+almost G a ts = (m : ℕ) × (m ≤ suc nesting_bound) × G false m a ts
+
 -- The whole list stands for this value, and for no other. Its numerals are within the limit, at no point are more than a
 -- thousand constructs open, and no tree of it is too high.
 pub record IsText {A : Type 0} (G : Bool → ℕ → A → Tokens → Type 0) (is_low : A → Bool) (ts : Tokens) (a : A) : Type 0 where
@@ -52,16 +56,16 @@ pub record GoesOn {A : Type 0} (L : A → Tokens → Type 0) (prefix remaining :
   pub viable : L value (prefix ++ more)
 
 -- No text begins with the tokens up to the next one, whatever its numerals are. A text with numerals within the limit begins
--- with the tokens before it.
+-- with the tokens before it, with no more than a thousand and one constructs open at each point.
 pub record StopsAt {A : Type 0} (G : Bool → ℕ → A → Tokens → Type 0) (ts remaining : Tokens) : Type 0 where
-  pub before : IsViable (small G) ts remaining
+  pub before : IsViable (almost G) ts remaining
   pub dead : GoesOn (unlimited G) before.prefix remaining → ⊥
 
 -- The next token is a numeral over the limit, and some text begins with the tokens up to it. None does whose numerals are
--- within the limit, but one begins with the tokens before it.
+-- within the limit, but one begins with the tokens before it, with no more than a thousand and one constructs open.
 pub record StopsWide {A : Type 0} (G : Bool → ℕ → A → Tokens → Type 0) (ts remaining : Tokens) : Type 0 where
   pub wide : begins (k.WideNumeral ∷ []) remaining ≡ true
-  pub before : IsViable (small G) ts remaining
+  pub before : IsViable (almost G) ts remaining
   pub live : GoesOn (unlimited G) before.prefix remaining
   pub dead : GoesOn (small G) before.prefix remaining → ⊥
 
