@@ -1,19 +1,19 @@
 -- The subexpressions of an expression that keeps the rules, with its choices where they may be,
 -- keep the rules too.
-use Rattle.std.proofs.Common.{◌≡◌, ℕ, zero, suc, inl, inr, true, ◌&&◌, List, [], ◌∷◌, map, subst}
-use Rattle.std.specs.List.{flat_map, list_all}
-use Rattle.smv_ast.specs.declared.syntax.Expr.{Expr, Expr-F, out-Expr, fold_out-Expr, map-Expr}
-use Rattle.smv_ast.specs.declared.syntax.Choice.{Choice, Choice-F, out-Choice, fold_out-Choice, map-Choice}
+use Rattle.std.proofs.Common.{◌≡◌, ℕ, zero, suc, inl, inr, Bool, true, ◌&&◌, List, [], ◌∷◌, map, subst}
+use Rattle.std.specs.List.{flat_map, list_all, AllByRecursion}
+use Rattle.smv_ast.specs.declared.syntax.Expr.{Expr, Expr-F, out-Expr, fold_out-Expr}
+use Rattle.smv_ast.specs.declared.syntax.Choice.{Choice, Choice-F, out-Choice, fold_out-Choice}
 use Rattle.smv_ast.specs.declared.syntax.Branch.{Branch, out-Branch, fold_out-Branch}
 use Rattle.smv_kinds.specs.declared.facts.Facts.{Facts}
 use Rattle.smv_kinds.specs.Facts.{ChoiceFacts, BranchFacts, SortEnvironment, pick_facts, choice_layer, expr_layer, branch_layer, facts_of, choice_facts_of, branch_facts_of}
 use Rattle.smv_kinds.specs.Parts.{choice_layer_parts, choice_parts, branch_parts, expr_layer_parts, direct_parts, parts_below}
+use Rattle.smv_kinds.specs.Monotone.{choice_facts, expr_facts}
 use Rattle.smv_kinds.specs.Soundness.{IsKept, Shape, BranchShape, choice_shape_layer, expr_shape_layer, branch_shape_layer, shape_of, choice_shape, branch_shape}
 use Rattle.smv_kinds.proofs.IntervalLemmas.{both_true}
-use Rattle.smv_kinds.proofs.PartLemmas.{Each}
 use Rattle.smv_kinds.proofs.KeptLemmas.{AllKept, first_kept, parts_kept, case_kept, negation_kept, not_kept, next_kept, binary_kept, within_kept}
-use Rattle.smv_kinds.proofs.SoundLemmas.{sound}
-use Rattle.smv_kinds.proofs.MemberLemmas.{In, from_flat}
+use Rattle.smv_kinds.proofs.SoundLemmas.{choice_shapes, expr_shapes, sound}
+use Rattle.smv_meaning.proofs.MemberLemmas.{In, from_flat}
 
 module _ (on : SortEnvironment) where
   -- an expression that keeps the rules, with its choices where they may be
@@ -26,44 +26,31 @@ module _ (on : SortEnvironment) where
 
   -- ---- choices
 
-  free_parts : (parts : List Expr) → AllKept (map (facts_of on) parts) → list_all (λ s. s.free) (map shape_of parts) ≡ true → Each Kept parts
-  free_parts [] k s = tt
-  free_parts (e ∷ parts) k s =
+  parts_in : (flag : Shape → Bool) → ((e : Expr) → IsKept (facts_of on e) → flag (shape_of e) ≡ true → Kept e) → (parts : List Expr) → AllKept (map (facts_of on) parts) → list_all flag (map shape_of parts) ≡ true → AllByRecursion Kept parts
+  parts_in flag up [] k s = tt
+  parts_in flag up (e ∷ parts) k s =
       let a = first_kept (facts_of on e) (map (facts_of on) parts) k in
-      let b = both_true (shape_of e).free (list_all (λ s. s.free) (map shape_of parts)) s in
-      (record { kept = a.0; free = b.0 }, free_parts parts a.1 b.1)
+      let b = both_true (flag (shape_of e)) (list_all flag (map shape_of parts)) s in
+      (up e a.0 b.0, parts_in flag up parts a.1 b.1)
 
-  plain_parts : (parts : List Expr) → AllKept (map (facts_of on) parts) → list_all (λ s. s.plain) (map shape_of parts) ≡ true → Each Kept parts
-  plain_parts [] k s = tt
-  plain_parts (e ∷ parts) k s =
-      let a = first_kept (facts_of on e) (map (facts_of on) parts) k in
-      let b = both_true (shape_of e).plain (list_all (λ s. s.plain) (map shape_of parts)) s in
-      (plain_kept e a.0 b.0, plain_parts parts a.1 b.1)
-
-  abbrev choice_facts : Choice-F Choice Expr Branch → Choice-F ChoiceFacts Facts BranchFacts
-  choice_facts = map-Choice Choice Expr Branch ChoiceFacts Facts BranchFacts (choice_facts_of on) (facts_of on) (branch_facts_of on)
-
-  abbrev choice_shapes : Choice-F Choice Expr Branch → Choice-F Shape Shape BranchShape
-  choice_shapes = map-Choice Choice Expr Branch Shape Shape BranchShape choice_shape shape_of branch_shape
-
-  free_layer : (d : Choice-F Choice Expr Branch) → IsKept (pick_facts (choice_layer (choice_facts d))) → (choice_shape_layer (choice_shapes d)).free ≡ true → Each Kept (choice_layer_parts d)
-  free_layer (Choice-F.Each parts) k s = free_parts parts (parts_kept (map (facts_of on) parts) k) s
+  free_layer : (d : Choice-F Choice Expr Branch) → IsKept (pick_facts (choice_layer (choice_facts on d))) → (choice_shape_layer (choice_shapes d)).free ≡ true → AllByRecursion Kept (choice_layer_parts d)
+  free_layer (Choice-F.Each parts) k s = parts_in (λ s. s.free) (λ e kept free. record { kept = kept; free = free }) parts (parts_kept (map (facts_of on) parts) k) s
   free_layer (Choice-F.Between low high) k s = tt
 
-  plain_layer : (d : Choice-F Choice Expr Branch) → IsKept (pick_facts (choice_layer (choice_facts d))) → (choice_shape_layer (choice_shapes d)).plain ≡ true → Each Kept (choice_layer_parts d)
-  plain_layer (Choice-F.Each parts) k s = plain_parts parts (parts_kept (map (facts_of on) parts) k) s
+  plain_layer : (d : Choice-F Choice Expr Branch) → IsKept (pick_facts (choice_layer (choice_facts on d))) → (choice_shape_layer (choice_shapes d)).plain ≡ true → AllByRecursion Kept (choice_layer_parts d)
+  plain_layer (Choice-F.Each parts) k s = parts_in (λ s. s.plain) plain_kept parts (parts_kept (map (facts_of on) parts) k) s
   plain_layer (Choice-F.Between low high) k s = tt
 
-  opened : (c : Choice) → IsKept (pick_facts (choice_facts_of on c)) → IsKept (pick_facts (choice_layer (choice_facts (out-Choice c))))
+  opened : (c : Choice) → IsKept (pick_facts (choice_facts_of on c)) → IsKept (pick_facts (choice_layer (choice_facts on (out-Choice c))))
   opened c k = subst (λ (o : ChoiceFacts). IsKept (pick_facts o)) (fold_out-Choice ChoiceFacts Facts BranchFacts choice_layer (expr_layer on) branch_layer c) k
 
   shape_opens : (c : Choice) → choice_shape c ≡ choice_shape_layer (choice_shapes (out-Choice c))
   shape_opens c = fold_out-Choice Shape Shape BranchShape choice_shape_layer expr_shape_layer branch_shape_layer c
 
-  free_choice : (c : Choice) → IsKept (pick_facts (choice_facts_of on c)) → (choice_shape c).free ≡ true → Each Kept (choice_parts c)
+  free_choice : (c : Choice) → IsKept (pick_facts (choice_facts_of on c)) → (choice_shape c).free ≡ true → AllByRecursion Kept (choice_parts c)
   free_choice c k s = free_layer (out-Choice c) (opened c k) (subst (λ (x : Shape). x.free ≡ true) (shape_opens c) s)
 
-  plain_choice : (c : Choice) → IsKept (pick_facts (choice_facts_of on c)) → (choice_shape c).plain ≡ true → Each Kept (choice_parts c)
+  plain_choice : (c : Choice) → IsKept (pick_facts (choice_facts_of on c)) → (choice_shape c).plain ≡ true → AllByRecursion Kept (choice_parts c)
   plain_choice c k s = plain_layer (out-Choice c) (opened c k) (subst (λ (x : Shape). x.plain ≡ true) (shape_opens c) s)
 
   -- ---- branches
@@ -80,7 +67,7 @@ module _ (on : SortEnvironment) where
   abbrev values : List Branch → List Facts
   values branches = map (λ g. g.value) (map (branch_facts_of on) branches)
 
-  branches_kept : (branches : List Branch) → AllKept (conds branches) → AllKept (values branches) → list_all (λ s. s.cond.plain && s.value.free) (map branch_shape branches) ≡ true → Each Kept (flat_map branch_parts branches)
+  branches_kept : (branches : List Branch) → AllKept (conds branches) → AllKept (values branches) → list_all (λ s. s.cond.plain && s.value.free) (map branch_shape branches) ≡ true → AllByRecursion Kept (flat_map branch_parts branches)
   branches_kept [] c v s = tt
   branches_kept (b ∷ branches) c v s =
       let x = first_kept (branch_facts_of on b).cond (conds branches) c in
@@ -95,13 +82,7 @@ module _ (on : SortEnvironment) where
 
   -- ---- expressions
 
-  abbrev expr_facts : Expr-F Choice Expr Branch → Expr-F ChoiceFacts Facts BranchFacts
-  expr_facts = map-Expr Choice Expr Branch ChoiceFacts Facts BranchFacts (choice_facts_of on) (facts_of on) (branch_facts_of on)
-
-  abbrev expr_shapes : Expr-F Choice Expr Branch → Expr-F Shape Shape BranchShape
-  expr_shapes = map-Expr Choice Expr Branch Shape Shape BranchShape choice_shape shape_of branch_shape
-
-  layer_kept : (d : Expr-F Choice Expr Branch) → IsKept (expr_layer on (expr_facts d)) → (expr_shape_layer (expr_shapes d)).free ≡ true → Each Kept (expr_layer_parts d)
+  layer_kept : (d : Expr-F Choice Expr Branch) → IsKept (expr_layer on (expr_facts on d)) → (expr_shape_layer (expr_shapes d)).free ≡ true → AllByRecursion Kept (expr_layer_parts d)
   layer_kept Expr-F.True k s = tt
   layer_kept Expr-F.False k s = tt
   layer_kept (Expr-F.Number n) k s = tt
@@ -122,12 +103,12 @@ module _ (on : SortEnvironment) where
   layer_kept (Expr-F.Next a) k s = (plain_kept a (next_kept (facts_of on a) k) s, tt)
   layer_kept (Expr-F.Pick c) k s = free_choice c k s
 
-  direct_kept : (e : Expr) → Kept e → Each Kept (direct_parts e)
+  direct_kept : (e : Expr) → Kept e → AllByRecursion Kept (direct_parts e)
   direct_kept e h = layer_kept (out-Expr e)
       (subst IsKept (fold_out-Expr ChoiceFacts Facts BranchFacts choice_layer (expr_layer on) branch_layer e) h.kept)
       (subst (λ (x : Shape). x.free ≡ true) (fold_out-Expr Shape Shape BranchShape choice_shape_layer expr_shape_layer branch_shape_layer e) h.free)
 
-  each_in : (parts : List Expr) (e : Expr) → Each Kept parts → In e parts → Kept e
+  each_in : (parts : List Expr) (e : Expr) → AllByRecursion Kept parts → In e parts → Kept e
   each_in [] e h i = absurd i
   each_in (p ∷ parts) e h (inl same) = subst Kept same h.0
   each_in (p ∷ parts) e h (inr i) = each_in parts e h.1 i

@@ -1,5 +1,5 @@
 -- Sorts by number are those by instance, over a correct instance table.
-use Rattle.std.proofs.Common.{◌≡◌, ℕ, zero, suc, ◌<◌, List, [], ◌∷◌, length, Option, Some, None, refl, sym, ap, ◌∙◌}
+use Rattle.std.proofs.Common.{◌≡◌, ℕ, zero, suc, ◌<◌, List, [], ◌∷◌, length, Option, Some, None, refl, sym, ap, ◌∙◌, subst}
 use Rattle.std.specs.Option.{option_map, is_some}
 use mathlib.Core.Path.{fun_ext}
 use Rattle.smv_ast.specs.declared.syntax.Expr.{Expr}
@@ -20,27 +20,29 @@ use Rattle.smv_kinds.specs.Sorts.{defined_sort}
 use Rattle.smv_kinds.specs.Facts.{SortEnvironment, facts_of}
 use Rattle.smv_kinds.specs.SortsOfNames.{Sorts, variable_sort, symbol_sort, sort_at, sorting_by, sort_by, sort_of, sort_step, sorts_in, target_sort, target_in, variable_at, sorting_in, row_variable, row_sorting, AreSorts}
 
+pub then_some : {A B : Type 0} (o : Option A) (f : A → Option B) (b : B) → and_then o f ≡ Some b → (a : A) × (o ≡ Some a) × (f a ≡ Some b)
+then_some None f b e = cc
+then_some (Some a) f b e = (a, refl, e)
+
+-- a path resolves to a name that has a slot
+slot_found : (table : InstanceTable) (path : List Name) (row : ℕ) (qualified : QualifiedName ℕ) → resolve (binding_in table) row path ≡ Some qualified → (k : ℕ) × (slot_of table qualified ≡ Some k)
+slot_found table [] row qualified e = cc
+slot_found table (name ∷ []) row qualified e =
+    let m = then_some (binding_in table (qualified_at row name)) (λ m. Some (qualified_at row name)) qualified e in
+    let k = then_some (slot_of table (qualified_at row name)) (λ k. and_then (slice_get table.slots k) (λ slot. Some (binding_view slot.binding))) m.0 m.1 in
+    let same : qualified_at row name ≡ qualified = (let f : Some (qualified_at row name) ≡ Some qualified = m.2 in cc) in
+    (k.0, subst (λ (x : QualifiedName ℕ). slot_of table x ≡ Some k.0) same k.1)
+slot_found table (name ∷ next ∷ more) row qualified e =
+    let p = then_some (aliases (binding_in table) (qualified_at row name)) (λ p. resolve (binding_in table) p (next ∷ more)) qualified e in
+    slot_found table (next ∷ more) p.0 qualified p.2
+
 -- a path that resolves to no slot resolves to no declaration
 pub resolve_none : (table : InstanceTable) (row : ℕ) (path : List Name) → resolve_slot table row path ≡ None → resolve (binding_in table) row path ≡ None
-resolve_none table row [] h = refl
-resolve_none table row (name ∷ []) h = at (slot_of table (qualified_at row name)) refl
+resolve_none table row path h = at (resolve (binding_in table) row path) refl h
   where
-    at : (o : Option ℕ) → slot_of table (qualified_at row name) ≡ o → resolve (binding_in table) row (name ∷ []) ≡ None
-    at None e = ap (λ (x : Option ℕ). and_then (and_then x (λ k. and_then (slice_get table.slots k) (λ slot. Some (binding_view slot.binding)))) (λ m. Some (qualified_at row name))) e
-    at (Some k) e = there (binding_in table (qualified_at row name)) refl
-      where
-        there : (m : Option (Binding ℕ)) → binding_in table (qualified_at row name) ≡ m → resolve (binding_in table) row (name ∷ []) ≡ None
-        there None f = ap (λ (x : Option (Binding ℕ)). and_then x (λ m. Some (qualified_at row name))) f
-        there (Some m) f =
-            let s : resolve_slot table row (name ∷ []) ≡ Some k = ap (λ (x : Option (Binding ℕ)). and_then (and_then x (λ m. Some (qualified_at row name))) (slot_of table)) f ∙ e in
-            cc
-resolve_none table row (name ∷ next ∷ more) h = at (aliases (binding_in table) (qualified_at row name)) refl (λ p. resolve_none table p (next ∷ more))
-  where
-    at : (o : Option ℕ) → aliases (binding_in table) (qualified_at row name) ≡ o → ((p : ℕ) → resolve_slot table p (next ∷ more) ≡ None → resolve (binding_in table) p (next ∷ more) ≡ None) → resolve (binding_in table) row (name ∷ next ∷ more) ≡ None
-    at None e deeper = ap (λ (x : Option ℕ). and_then x (λ p. resolve (binding_in table) p (next ∷ more))) e
-    at (Some p) e deeper =
-        let s : resolve_slot table row (name ∷ next ∷ more) ≡ resolve_slot table p (next ∷ more) = ap (λ (x : Option ℕ). and_then (and_then x (λ p. resolve (binding_in table) p (next ∷ more))) (slot_of table)) e in
-        ap (λ (x : Option ℕ). and_then x (λ p. resolve (binding_in table) p (next ∷ more))) e ∙ deeper p (sym s ∙ h)
+    at : (o : Option (QualifiedName ℕ)) → resolve (binding_in table) row path ≡ o → and_then o (slot_of table) ≡ None → resolve (binding_in table) row path ≡ None
+    at None e g = e
+    at (Some qualified) e g = let k = slot_found table path row qualified e in let n : Some k.0 ≡ None = sym k.1 ∙ g in cc
 
 module _ (program : Program) (table : InstanceTable) (right : IsTableOf program table.rows table.firsts table.slots) where
   abbrev instance_at : ℕ → Instance

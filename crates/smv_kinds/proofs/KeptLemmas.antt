@@ -7,7 +7,6 @@ use Rattle.smv_kinds.specs.Facts.{negation_facts, not_facts, next_facts, binary_
 use Rattle.smv_kinds.specs.Soundness.{IsKept}
 use Rattle.smv_kinds.proofs.IntervalLemmas.{both_true}
 use Rattle.smv_kinds.proofs.PartLemmas.{node_kept}
-use Rattle.smv_kinds.proofs.TakenLemmas.{HasOne}
 
 -- ---- parts of a set
 
@@ -29,7 +28,12 @@ parts_kept fs h =
     let n = node_kept (parts_sort fs) (is_boolean (parts_sort fs) || all_fit fs) (all_kinds fs && all_suit (parts_sort fs) fs) (all_small fs) (all_mods fs) h in
     record { kinds = (both_true (all_kinds fs) (all_suit (parts_sort fs) fs) n.kinds_kept).0; small = n.small_kept; mods = n.mods_kept }
 
-pub has_one : (fs : List Facts) → has_kind (parts_sort fs) ≡ true → HasOne fs
+-- the list is not empty
+abbrev pub HasOne : {A : Type 0} → List A → Type 0
+HasOne [] = ⊥
+HasOne (x ∷ xs) = Unit {0}
+
+has_one : (fs : List Facts) → has_kind (parts_sort fs) ≡ true → HasOne fs
 has_one [] h = cc
 has_one (f ∷ fs) h = tt
 

@@ -2,7 +2,7 @@
 use Rattle.std.proofs.Common.{◌≡◌, Bool, true, false, ◌&&◌, ◌||◌, ◌⊎◌, inl, inr, List, [], ◌∷◌, Option, Some, None, refl, sym, ap, ◌∙◌, subst, arith}
 use Rattle.std.specs.Prelude.{◌≤ℤ◌}
 use Rattle.std.specs.Int.{int_min, int_max}
-use Rattle.std.specs.List.{fold, list_all}
+use Rattle.std.specs.List.{fold, list_all, AllByRecursion}
 use Rattle.std.proofs.lemmas.Int.{ints, clamps}
 use Rattle.smv_meaning.specs.declared.value.Value.{Value}
 use Rattle.smv_kinds.specs.declared.intervals.Interval.{Interval}
@@ -84,20 +84,15 @@ joined i (Some (Number a)) (Some Symbol) h = record { left = record { inner = h.
 joined i (Some (Number a)) (Some Alias) h = record { left = record { inner = h.inner; is = h.is; inside = h.inside }; right = tt }
 joined i (Some (Number a)) (Some Nothing) h = record { left = record { inner = h.inner; is = h.is; inside = h.inside }; right = tt }
 
--- a property of each of these
-abbrev pub Each : {A : Type 0} → (A → Type 0) → List A → Type 0
-Each P [] = Unit {0}
-Each P (x ∷ xs) = P x × Each P xs
-
-pub each_all : {A : Type 0} (f : A → Bool) (xs : List A) → list_all f xs ≡ true → Each (λ x. f x ≡ true) xs
+pub each_all : {A : Type 0} (f : A → Bool) (xs : List A) → list_all f xs ≡ true → AllByRecursion (λ x. f x ≡ true) xs
 each_all f [] h = tt
 each_all f (x ∷ xs) h = let b = both_true (f x) (list_all f xs) h in (b.0, each_all f xs b.1)
 
-pub each_both : {A : Type 0} (P Q R : A → Type 0) → ((x : A) → P x → Q x → R x) → (xs : List A) → Each P xs → Each Q xs → Each R xs
+pub each_both : {A : Type 0} (P Q R : A → Type 0) → ((x : A) → P x → Q x → R x) → (xs : List A) → AllByRecursion P xs → AllByRecursion Q xs → AllByRecursion R xs
 each_both P Q R transfer [] p q = tt
 each_both P Q R transfer (x ∷ xs) p q = (transfer x p.0 q.0, each_both P Q R transfer xs p.1 q.1)
 
-held_tail : (i : Interval) (parts : List Facts) (o : Option Sort) → IntervalWithin i (fold (λ s a. join_both s a.sort) o parts) → IntervalWithin i o × Each (λ x. Covers i x.sort) parts
+held_tail : (i : Interval) (parts : List Facts) (o : Option Sort) → IntervalWithin i (fold (λ s a. join_both s a.sort) o parts) → IntervalWithin i o × AllByRecursion (λ x. Covers i x.sort) parts
 held_tail i [] o h = (h, tt)
 held_tail i (x ∷ xs) o h =
     let r = held_tail i xs (join_both o x.sort) h in
@@ -109,15 +104,15 @@ abbrev CoversBy : Option Sort → Option Sort → Type 0
 CoversBy (Some (Number i)) o = Covers i o
 CoversBy s o = Unit {0}
 
-each_unit : {A : Type 0} (xs : List A) → Each (λ x. Unit {0}) xs
+each_unit : {A : Type 0} (xs : List A) → AllByRecursion (λ x. Unit {0}) xs
 each_unit [] = tt
 each_unit (x ∷ xs) = (tt, each_unit xs)
 
-each_if : (b : Bool) (xs : List Facts) → (b ≡ true → Each (λ x. x.fits ≡ true) xs) → Each (λ x. (b ≡ true → x.fits ≡ true)) xs
+each_if : (b : Bool) (xs : List Facts) → (b ≡ true → AllByRecursion (λ x. x.fits ≡ true) xs) → AllByRecursion (λ x. (b ≡ true → x.fits ≡ true)) xs
 each_if b [] h = tt
 each_if b (x ∷ xs) h = (λ e. (h e).0, each_if b xs (λ e. (h e).1))
 
-covers_each : (s : Option Sort) (parts : List Facts) → parts_sort parts ≡ s → Each (λ x. CoversBy s x.sort) parts
+covers_each : (s : Option Sort) (parts : List Facts) → parts_sort parts ≡ s → AllByRecursion (λ x. CoversBy s x.sort) parts
 covers_each s [] e = tt
 covers_each (Some (Number i)) (x ∷ xs) e = (held_tail i (x ∷ xs) x.sort (record { inner = i; is = e; inside = inside_self i })).1
 covers_each None (x ∷ xs) e = each_unit (x ∷ xs)
@@ -190,7 +185,7 @@ either_true true q h = inl refl
 either_true false q h = inr h
 
 -- the value of a part agrees with the facts of the whole set
-pub part_of : (parts : List Facts) → IsKept (parts_facts parts) → Each (λ x. (v : Value) → IsOf x v → IsOf (parts_facts parts) v) parts
+pub part_of : (parts : List Facts) → IsKept (parts_facts parts) → AllByRecursion (λ x. (v : Value) → IsOf x v → IsOf (parts_facts parts) v) parts
 part_of parts kept =
     let s = parts_sort parts in
     let n = node_kept s (is_boolean s || all_fit parts) (all_kinds parts && all_suit s parts) (all_small parts) (all_mods parts) kept in

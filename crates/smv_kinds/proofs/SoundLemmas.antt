@@ -2,7 +2,7 @@
 -- values of their sorts.
 use Rattle.std.proofs.Common.{◌≡◌, ℕ, zero, suc, Bool, true, false, ◌&&◌, ◌||◌, inl, inr, List, [], ◌∷◌, map, Option, Some, None, refl, sym, ap, ◌∙◌, subst, arith}
 use Rattle.std.specs.Prelude.{ℤ, pos, nat_le, int_le}
-use Rattle.std.specs.List.{fold, list_all}
+use Rattle.std.specs.List.{fold, list_all, AllByRecursion}
 use Rattle.std.proofs.lemmas.Int.{ints}
 use Rattle.smv_ast.specs.declared.syntax.Op.{Op}
 use Rattle.smv_ast.specs.declared.syntax.Expr.{Expr, Expr-F, roll-Expr, fold-roll-Expr, map-Expr, ind-Expr}
@@ -11,18 +11,19 @@ use Rattle.smv_ast.specs.declared.syntax.Branch.{Branch, Branch-F, roll-Branch, 
 use Rattle.smv_meaning.specs.declared.value.Value.{Value}
 use Rattle.smv_meaning.specs.declared.value.Value.TheVariants.{Boolean as Truth, Number as Whole, Symbol as Word}
 use Rattle.smv_meaning.specs.Value.{Name, and_then, of_both, truth, same, operate, negated, logical_not, in_range}
-use Rattle.smv_meaning.specs.Denotations.{Environment, Valued, Allowed, Denotation, BranchDenotation, single, parts_allow, taken, taken_in, holds_in, choice_denotation, expr_denotation, branch_denotation, denotation_of, choice_allows, branch_denotation_of}
+use Rattle.smv_meaning.specs.Denotations.{Environment, Valued, Allowed, Denotation, BranchDenotation, single, parts_allow, taken_in, holds_in, case_value, case_allows, choice_denotation, expr_denotation, branch_denotation, denotation_of, choice_allows, branch_denotation_of}
 use Rattle.smv_kinds.specs.declared.sorts.Sort.{Sort}
 use Rattle.smv_kinds.specs.declared.sorts.Sort.TheVariants.{Nothing}
 use Rattle.smv_kinds.specs.declared.facts.Facts.{Facts}
 use Rattle.smv_kinds.specs.Sorts.{is_boolean, has_kind, is_small, join, join_both, binary_sort, truth_sort, if_known, interval_sort}
 use Rattle.smv_kinds.specs.Facts.{truth_facts, number_facts, name_facts, negation_facts, not_facts, next_facts, binary_facts, parts_sort, parts_facts, interval_facts, case_facts, within_choice, all_kinds, all_fit, all_suit, ChoiceFacts, Parts, Between, BranchFacts, SortEnvironment, pick_facts, choice_layer, expr_layer, branch_layer, facts_of, choice_facts_of, branch_facts_of}
+use Rattle.smv_meaning.specs.MentionedPaths.{choice_denotations, expr_denotations, denotation_roll, choice_roll, branch_roll}
+use Rattle.smv_kinds.specs.Monotone.{IsKnown, choice_facts, expr_facts, choice_facts_roll, facts_roll, branch_facts_roll}
 use Rattle.smv_kinds.specs.Soundness.{IsTruth, FitsKnown, IsOf, Meets, IsKept, Allows, Shape, BranchShape, single_shape, choice_shape_layer, expr_shape_layer, branch_shape_layer, shape_of, choice_shape, branch_shape}
 use Rattle.smv_kinds.proofs.IntervalLemmas.{both_true}
 use Rattle.smv_kinds.proofs.ValueLemmas.{count_is, operator_transfer, negation_transfer, not_transfer, same_value}
-use Rattle.smv_kinds.proofs.TakenLemmas.{map_twice, takes_one, HasOne, some_mapped, all_twice}
-use Rattle.smv_kinds.proofs.PartLemmas.{Each, each_all, each_both, node_kept, as_boolean, either_true, part_of}
-use Rattle.smv_kinds.proofs.KeptLemmas.{AllKept, first_kept, parts_kept, CaseKept, case_kept, negation_kept, not_kept, next_kept, binary_kept, within_kept}
+use Rattle.smv_kinds.proofs.PartLemmas.{node_kept, as_boolean, either_true, part_of}
+use Rattle.smv_kinds.proofs.KeptLemmas.{HasOne, AllKept, first_kept, parts_kept, CaseKept, case_kept, negation_kept, not_kept, next_kept, binary_kept, within_kept}
 
 -- ---- defined values
 
@@ -42,21 +43,18 @@ if_known_of : (s t : Option Sort) (v u : Value) → FitsKnown s v → FitsKnown 
 if_known_of None t v u h k = absurd h
 if_known_of (Some s) t v u h k = k
 
-abbrev IsThere : Option Sort → Type 0
-IsThere o = (s : Sort) × (o ≡ Some s)
-
-there_of : (o : Option Sort) (v : Value) → FitsKnown o v → IsThere o
+there_of : (o : Option Sort) (v : Value) → FitsKnown o v → IsKnown o
 there_of None v h = absurd h
 there_of (Some s) v h = (s, refl)
 
-if_known_there : (s t : Option Sort) (u : Value) → IsThere s → FitsKnown t u → FitsKnown (if_known s t) u
+if_known_there : (s t : Option Sort) (u : Value) → IsKnown s → FitsKnown t u → FitsKnown (if_known s t) u
 if_known_there s t u h k = subst (λ (o : Option Sort). FitsKnown (if_known o t) u) (sym h.1) k
 
-fold_there : (xs : List Facts) (o : Option Sort) → IsThere o → Each (λ x. IsThere x.sort) xs → IsThere (fold (λ sort a. join_both sort a.sort) o xs)
+fold_there : (xs : List Facts) (o : Option Sort) → IsKnown o → AllByRecursion (λ x. IsKnown x.sort) xs → IsKnown (fold (λ sort a. join_both sort a.sort) o xs)
 fold_there [] o h e = h
 fold_there (x ∷ xs) o h e = fold_there xs (join_both o x.sort) (join h.0 e.0.0, ap (λ (p : Option Sort). join_both p x.sort) h.1 ∙ ap (join_both (Some h.0)) e.0.1) e.1
 
-parts_there : (xs : List Facts) → Each (λ x. IsThere x.sort) xs → IsThere (parts_sort xs)
+parts_there : (xs : List Facts) → AllByRecursion (λ x. IsKnown x.sort) xs → IsKnown (parts_sort xs)
 parts_there [] e = (Nothing, refl)
 parts_there (x ∷ xs) e = fold_there (x ∷ xs) x.sort e.0 e
 
@@ -65,11 +63,15 @@ numeral_serves zero e = (false, refl)
 numeral_serves (suc zero) e = (true, refl)
 numeral_serves (suc (suc n)) e = absurd (grind arith)
 
-each_map : {A B : Type 0} (P : B → Type 0) (f : A → B) (xs : List A) → Each P (map f xs) → Each (λ x. P (f x)) xs
-each_map P f [] h = tt
-each_map P f (x ∷ xs) h = (h.0, each_map P f xs h.1)
-
 -- ---- expressions
+
+-- the shapes of the parts of a choice
+abbrev pub choice_shapes : Choice-F Choice Expr Branch → Choice-F Shape Shape BranchShape
+choice_shapes = map-Choice Choice Expr Branch Shape Shape BranchShape choice_shape shape_of branch_shape
+
+-- the shapes of the parts of an expression
+abbrev pub expr_shapes : Expr-F Choice Expr Branch → Expr-F Shape Shape BranchShape
+expr_shapes = map-Expr Choice Expr Branch Shape Shape BranchShape choice_shape shape_of branch_shape
 
 module _ (on : SortEnvironment) where
   -- names have values of their sorts
@@ -157,7 +159,7 @@ module _ (on : SortEnvironment) where
       (w.0, up w.0 w.1, ap (λ (o : Option Bool). of_both (λ b c. Some (b || c)) o (parts_allow now after w.0 (map denotation_of (map (λ x. x.0) xs)))) w.2 ∙ ap (of_both (λ b c. Some (b || c)) (Some true)) c.1)
 
   -- a value that one of the parts allows equals one that agrees with the facts of all
-  parts_each : (now after : Environment) → Agrees now → Agrees after → (f : Facts) (xs : List Exprs) → Each (λ g. (w : Value) → IsOf g w → IsOf f w) (facts_from xs) → AllKept (facts_from xs) → list_all (λ p. p.free) (shapes_from xs) ≡ true →
+  parts_each : (now after : Environment) → Agrees now → Agrees after → (f : Facts) (xs : List Exprs) → AllByRecursion (λ g. (w : Value) → IsOf g w → IsOf f w) (facts_from xs) → AllKept (facts_from xs) → list_all (λ p. p.free) (shapes_from xs) ≡ true →
       (v : Value) → parts_allow now after v (map denotation_of (map (λ x. x.0) xs)) ≡ Some true → (w : Value) × (same v w ≡ true) × IsOf f w
   parts_each now after n a f [] up k s v h = cc
   parts_each now after n a f (x ∷ xs) up k s v h =
@@ -177,15 +179,6 @@ module _ (on : SortEnvironment) where
   -- the underlying choice
   abbrev choice_from : Choice-F Choices Exprs Branches → Choice-F Choice Expr Branch
   choice_from = map-Choice Choices Exprs Branches Choice Expr Branch (λ c. c.0) (λ e. e.0) (λ b. b.0)
-
-  abbrev choice_facts : Choice-F Choice Expr Branch → Choice-F ChoiceFacts Facts BranchFacts
-  choice_facts = map-Choice Choice Expr Branch ChoiceFacts Facts BranchFacts (choice_facts_of on) (facts_of on) (branch_facts_of on)
-
-  abbrev choice_shapes : Choice-F Choice Expr Branch → Choice-F Shape Shape BranchShape
-  choice_shapes = map-Choice Choice Expr Branch Shape Shape BranchShape choice_shape shape_of branch_shape
-
-  abbrev choice_denotations : Choice-F Choice Expr Branch → Choice-F Allowed Denotation BranchDenotation
-  choice_denotations = map-Choice Choice Expr Branch Allowed Denotation BranchDenotation choice_allows denotation_of branch_denotation_of
 
   interval_each : (low high : ℤ) → is_small (Some (interval_sort low high)) ≡ true → (v : Value) → in_range low high v ≡ true → (w : Value) × (same v w ≡ true) × IsOf (interval_facts low high) w
   interval_each low high small (Whole m) h =
@@ -207,7 +200,7 @@ module _ (on : SortEnvironment) where
         each = λ v h. interval_each low high n.narrow v (cc);
       }
 
-  choice_sound : (y : Choice-F Choices Exprs Branches) → SoundAsChoice (choice_layer (choice_facts (choice_from y))) (choice_shape_layer (choice_shapes (choice_from y))) (choice_denotation (choice_denotations (choice_from y)))
+  choice_sound : (y : Choice-F Choices Exprs Branches) → SoundAsChoice (choice_layer (choice_facts on (choice_from y))) (choice_shape_layer (choice_shapes (choice_from y))) (choice_denotation (choice_denotations (choice_from y)))
   choice_sound (Choice-F.Each xs) = record {
     within = λ now after n a k p v. parts_total now after n a xs (parts_kept (facts_from xs) k) (loose_parts xs p) v;
     allows = λ now after n a k p. record {
@@ -236,99 +229,96 @@ module _ (on : SortEnvironment) where
   abbrev denotations : List Branches → List BranchDenotation
   denotations bs = map branch_denotation_of (map (λ b. b.0) bs)
 
-  -- a branch whose parts keep the rules
-  record Ready (b : Branches) : Type 0 where
+  -- a branch of a case that keeps the rules, whose value has a shape that is asked for
+  record Ready (f : Facts) (flag : BranchShape → Bool) (b : Branches) : Type 0 where
     cond : IsKept (branch_facts_of on b.0).cond
     fits : (branch_facts_of on b.0).cond.fits ≡ true
     plain : (branch_shape b.0).cond.plain ≡ true
     value : IsKept (branch_facts_of on b.0).value
-
-  ready : (bs : List Branches) → AllKept (conds bs) → all_fit (conds bs) ≡ true → AllKept (values bs) → list_all (λ b. b.cond.plain) (branch_shapes bs) ≡ true → Each Ready bs
-  ready [] c f v s = tt
-  ready (b ∷ bs) c f v s =
-      let x = first_kept (branch_facts_of on b.0).cond (conds bs) c in
-      let y = both_true (branch_facts_of on b.0).cond.fits (all_fit (conds bs)) f in
-      let z = first_kept (branch_facts_of on b.0).value (values bs) v in
-      let p = both_true (branch_shape b.0).cond.plain (list_all (λ b. b.cond.plain) (branch_shapes bs)) s in
-      (record { cond = x.0; fits = y.0; plain = p.0; value = z.0 }, ready bs x.1 y.1 z.1 p.1)
-
-  module _ (now after : Environment) (n : Agrees now) (a : Agrees after) where
-    -- each condition has a truth value
-    known_of : (bs : List Branches) → Each Ready bs → Each (λ b. (t : Bool) × (holds_in now after (branch_denotation_of b.0) ≡ Some t)) bs
-    known_of [] r = tt
-    known_of (b ∷ bs) r =
-        let m = b.1.cond.value now after n a r.0.cond r.0.plain in
-        let t = m.2.serves r.0.fits in
-        ((t.0, ap (λ (o : Option Value). and_then o truth) m.1 ∙ t.1), known_of bs r.1)
-
-    -- the selected branch is one of them
-    abbrev TakesOne : (Branches → Type 0) → List Branches → Type 0
-    TakesOne P bs = (b : Branches) × (taken_in now after (denotations bs) ≡ Some (branch_denotation_of b.0)) × P b
-
-    taken_is : (P : Branches → Type 0) (bs : List Branches) → HasOne bs → Each Ready bs → Each P bs → TakesOne P bs
-    taken_is P bs k r p =
-        let t = takes_one (λ b. branch_denotation_of b.0) (holds_in now after) P bs k (known_of bs r) p in
-        (t.0, ap (taken (holds_in now after)) (map_twice branch_denotation_of (λ b. b.0) bs) ∙ t.1, t.2)
-
-    -- the sorts of the conditions are known
-    conds_there : (bs : List Branches) → Each Ready bs → Each (λ x. IsThere x.sort) (conds bs)
-    conds_there [] r = tt
-    conds_there (b ∷ bs) r =
-        let m = b.1.cond.value now after n a r.0.cond r.0.plain in (there_of (branch_facts_of on b.0).cond.sort m.0 m.2.sort, conds_there bs r.1)
-
-    -- a value of a branch agrees with the facts of the case
-    lifted : (bs : List Branches) (v : Value) → Each Ready bs → IsOf (parts_facts (values bs)) v → IsOf (case_facts (conds bs) (values bs)) v
-    lifted bs v r h = record {
-      sort = if_known_there (parts_sort (conds bs)) (parts_sort (values bs)) v (parts_there (conds bs) (conds_there bs r)) h.sort;
-      serves = h.serves;
-    }
-
-  -- a case that keeps the rules has parts that keep them
-  abbrev Parted : List Branches → Type 0
-  Parted bs = CaseKept (conds bs) (values bs)
-
-  one_of : (bs : List Branches) → HasOne (values bs) → HasOne bs
-  one_of bs h = some_mapped (λ b. b.0) bs (some_mapped (branch_facts_of on) (map (λ b. b.0) bs) (some_mapped (λ g. g.value) (map (branch_facts_of on) (map (λ b. b.0) bs)) h))
-
-  -- a branch of a case that keeps the rules
-  record SoundPart (f : Facts) (flag : BranchShape → Bool) (b : Branches) : Type 0 where
-    is_ready : Ready b
-    up : (v : Value) → IsOf (branch_facts_of on b.0).value v → IsOf f v
     flagged : flag (branch_shape b.0) ≡ true
+    up : (v : Value) → IsOf (branch_facts_of on b.0).value v → IsOf f v
 
-  ready_of : (bs : List Branches) → Parted bs → list_all (λ b. b.cond.plain) (branch_shapes bs) ≡ true → Each Ready bs
-  ready_of bs c s = ready bs c.conds_kept c.fit (parts_kept (values bs) c.set) s
+  ready : (f : Facts) (flag : BranchShape → Bool) (bs : List Branches) → AllKept (conds bs) → all_fit (conds bs) ≡ true → AllKept (values bs) → AllByRecursion (λ x. (v : Value) → IsOf x v → IsOf f v) (values bs)
+      → list_all (λ b. b.cond.plain && flag b) (branch_shapes bs) ≡ true → AllByRecursion (Ready f flag) bs
+  ready f flag [] c fit v u s = tt
+  ready f flag (b ∷ bs) c fit v u s =
+      let x = first_kept (branch_facts_of on b.0).cond (conds bs) c in
+      let y = both_true (branch_facts_of on b.0).cond.fits (all_fit (conds bs)) fit in
+      let z = first_kept (branch_facts_of on b.0).value (values bs) v in
+      let p = both_true ((branch_shape b.0).cond.plain && flag (branch_shape b.0)) (list_all (λ b. b.cond.plain && flag b) (branch_shapes bs)) s in
+      let q = both_true (branch_shape b.0).cond.plain (flag (branch_shape b.0)) p.0 in
+      (record { cond = x.0; fits = y.0; plain = q.0; value = z.0; flagged = q.1; up = u.0 }, ready f flag bs x.1 y.1 z.1 u.1 p.1)
 
-  sound_parts : (flag : BranchShape → Bool) (bs : List Branches) → Parted bs → Each Ready bs → list_all flag (branch_shapes bs) ≡ true → Each (SoundPart (parts_facts (values bs)) flag) bs
-  sound_parts flag bs c r s =
-      let f = parts_facts (values bs) in
-      let ups = each_map (λ g. (v : Value) → IsOf g.value v → IsOf f v) (branch_facts_of on) (map (λ b. b.0) bs) (each_map (λ x. (v : Value) → IsOf x v → IsOf f v) (λ g. g.value) (map (branch_facts_of on) (map (λ b. b.0) bs)) (part_of (values bs) c.set)) in
-      let flags = each_map (λ s. flag s ≡ true) branch_shape (map (λ b. b.0) bs) (each_all flag (branch_shapes bs) s) in
-      let both = each_both (λ b. (v : Value) → IsOf (branch_facts_of on b).value v → IsOf f v) (λ b. flag (branch_shape b) ≡ true) (λ b. ((v : Value) → IsOf (branch_facts_of on b).value v → IsOf f v) × (flag (branch_shape b) ≡ true)) (λ b x y. (x, y)) (map (λ b. b.0) bs) ups flags in
-      each_both Ready (λ b. ((v : Value) → IsOf (branch_facts_of on b.0).value v → IsOf f v) × (flag (branch_shape b.0) ≡ true)) (SoundPart f flag) (λ b x y. record { is_ready = x; up = y.0; flagged = y.1 }) bs r (each_map (λ b. ((v : Value) → IsOf (branch_facts_of on b).value v → IsOf f v) × (flag (branch_shape b) ≡ true)) (λ b. b.0) bs both)
+  module _ (now after : Environment) (n : Agrees now) (a : Agrees after) (flag : BranchShape → Bool) where
+    module _ (f : Facts) where
+      -- its condition has a truth value
+      known_of : (b : Branches) → Ready f flag b → (t : Bool) × (holds_in now after (branch_denotation_of b.0) ≡ Some t)
+      known_of b r =
+          let m = b.1.cond.value now after n a r.cond r.plain in
+          let t = m.2.serves r.fits in
+          (t.0, ap (λ (o : Option Value). and_then o truth) m.1 ∙ t.1)
 
-  case_value : (now after : Environment) → Agrees now → Agrees after → (bs : List Branches) → IsKept (case_facts (conds bs) (values bs)) → list_all (λ b. b.cond.plain && b.value.plain) (branch_shapes bs) ≡ true →
-      Meets (case_facts (conds bs) (values bs)) (and_then (taken_in now after (denotations bs)) (λ s. s.value.value now after))
-  case_value now after n a bs k p =
-      let c = case_kept (conds bs) (values bs) k in
-      let s = all_twice (λ b. b.cond.plain) (λ b. b.value.plain) (branch_shapes bs) p in
-      let r = ready_of bs c s.0 in
-      let t = taken_is now after n a (SoundPart (parts_facts (values bs)) (λ b. b.value.plain)) bs (one_of bs c.one) r (sound_parts (λ b. b.value.plain) bs c r s.1) in
-      let m = t.0.1.value.value now after n a t.2.is_ready.value t.2.flagged in
-      (m.0, ap (λ (o : Option BranchDenotation). and_then o (λ s. s.value.value now after)) t.1 ∙ m.1, lifted now after n a bs m.0 r (t.2.up m.0 m.2))
+      -- one of the branches is selected
+      abbrev Takes : List Branches → Type 0
+      Takes bs = (b : Branches) × (taken_in now after (denotations bs) ≡ Some (branch_denotation_of b.0)) × Ready f flag b
+
+      take_next : (b d : Branches) (bs : List Branches) (t : Bool) → holds_in now after (branch_denotation_of b.0) ≡ Some t → Ready f flag b → Takes (d ∷ bs) → Takes (b ∷ d ∷ bs)
+      take_next b d bs true h r k = (b, ap (λ (o : Option Bool). and_then o elim [ true ↦ Some (branch_denotation_of b.0) | false ↦ taken_in now after (denotations (d ∷ bs)) ]) h, r)
+      take_next b d bs false h r k = (k.0, ap (λ (o : Option Bool). and_then o elim [ true ↦ Some (branch_denotation_of b.0) | false ↦ taken_in now after (denotations (d ∷ bs)) ]) h ∙ k.1, k.2)
+
+      takes : (b : Branches) (bs : List Branches) → AllByRecursion (Ready f flag) (b ∷ bs) → Takes (b ∷ bs)
+      takes b [] r = (b, refl, r.0)
+      takes b (d ∷ bs) r = let t = known_of b r.0 in take_next b d bs t.0 t.1 r.0 (takes d bs r.1)
+
+      takes_one : (bs : List Branches) → HasOne (values bs) → AllByRecursion (Ready f flag) bs → Takes bs
+      takes_one [] h r = absurd h
+      takes_one (b ∷ bs) h r = takes b bs r
+
+      -- the sorts of the conditions are known
+      conds_known : (bs : List Branches) → AllByRecursion (Ready f flag) bs → AllByRecursion (λ x. IsKnown x.sort) (conds bs)
+      conds_known [] r = tt
+      conds_known (b ∷ bs) r =
+          let m = b.1.cond.value now after n a r.0.cond r.0.plain in (there_of (branch_facts_of on b.0).cond.sort m.0 m.2.sort, conds_known bs r.1)
+
+    -- the branch that a case selects; its values agree with the facts of the case
+    record Selected (bs : List Branches) : Type 0 where
+      branch : Branches
+      taken : taken_in now after (denotations bs) ≡ Some (branch_denotation_of branch.0)
+      kept : IsKept (branch_facts_of on branch.0).value
+      flagged : flag (branch_shape branch.0) ≡ true
+      up : (v : Value) → IsOf (branch_facts_of on branch.0).value v → IsOf (case_facts (conds bs) (values bs)) v
+
+    select : (bs : List Branches) → IsKept (case_facts (conds bs) (values bs)) → list_all (λ b. b.cond.plain && flag b) (branch_shapes bs) ≡ true → Selected bs
+    select bs k p =
+        let c = case_kept (conds bs) (values bs) k in
+        let f = parts_facts (values bs) in
+        let r = ready f flag bs c.conds_kept c.fit (parts_kept (values bs) c.set) (part_of (values bs) c.set) p in
+        let t = takes_one f bs c.one r in
+        record {
+          branch = t.0;
+          taken = t.1;
+          kept = t.2.value;
+          flagged = t.2.flagged;
+          up = λ v h. let i = t.2.up v h in record { sort = if_known_there (parts_sort (conds bs)) (parts_sort (values bs)) v (parts_there (conds bs) (conds_known f bs r)) i.sort; serves = i.serves };
+        }
+
+  case_valued : (now after : Environment) → Agrees now → Agrees after → (bs : List Branches) → IsKept (case_facts (conds bs) (values bs)) → list_all (λ b. b.cond.plain && b.value.plain) (branch_shapes bs) ≡ true →
+      Meets (case_facts (conds bs) (values bs)) (case_value now after (denotations bs))
+  case_valued now after n a bs k p =
+      let s = select now after n a (λ b. b.value.plain) bs k p in
+      let m = s.branch.1.value.value now after n a s.kept s.flagged in
+      (m.0, ap (λ (o : Option BranchDenotation). and_then o (λ b. b.value.value now after)) s.taken ∙ m.1, s.up m.0 m.2)
 
   case_allowed : (now after : Environment) → Agrees now → Agrees after → (bs : List Branches) → IsKept (case_facts (conds bs) (values bs)) → list_all (λ b. b.cond.plain && b.value.free) (branch_shapes bs) ≡ true →
-      Allows (case_facts (conds bs) (values bs)) (λ v. and_then (taken_in now after (denotations bs)) (λ s. s.value.allows now after v))
+      Allows (case_facts (conds bs) (values bs)) (case_allows now after (denotations bs))
   case_allowed now after n a bs k p =
-      let c = case_kept (conds bs) (values bs) k in
-      let s = all_twice (λ b. b.cond.plain) (λ b. b.value.free) (branch_shapes bs) p in
-      let r = ready_of bs c s.0 in
-      let t = taken_is now after n a (SoundPart (parts_facts (values bs)) (λ b. b.value.free)) bs (one_of bs c.one) r (sound_parts (λ b. b.value.free) bs c r s.1) in
-      let m = t.0.1.value.allows now after n a t.2.is_ready.value t.2.flagged in
+      let s = select now after n a (λ b. b.value.free) bs k p in
+      let m = s.branch.1.value.allows now after n a s.kept s.flagged in
+      let is : (v : Value) → case_allows now after (denotations bs) v ≡ (branch_denotation_of s.branch.0).value.allows now after v = λ v. ap (λ (o : Option BranchDenotation). and_then o (λ b. b.value.allows now after v)) s.taken in
       record {
-        total = λ v. let x = m.total v in (x.0, ap (λ (o : Option BranchDenotation). and_then o (λ s. s.value.allows now after v)) t.1 ∙ x.1);
-        some = (m.some.0, lifted now after n a bs m.some.0 r (t.2.up m.some.0 m.some.1), ap (λ (o : Option BranchDenotation). and_then o (λ s. s.value.allows now after m.some.0)) t.1 ∙ m.some.2);
-        each = λ v h. let x = m.each v (sym (ap (λ (o : Option BranchDenotation). and_then o (λ s. s.value.allows now after v)) t.1) ∙ h) in (x.0, x.1, lifted now after n a bs x.0 r (t.2.up x.0 x.2));
+        total = λ v. let x = m.total v in (x.0, is v ∙ x.1);
+        some = (m.some.0, s.up m.some.0 m.some.1, is m.some.0 ∙ m.some.2);
+        each = λ v h. let x = m.each v (sym (is v) ∙ h) in (x.0, x.1, s.up x.0 x.2);
       }
 
   case_loose : (bs : List Branches) → list_all (λ b. b.cond.plain && b.value.plain) (branch_shapes bs) ≡ true → list_all (λ b. b.cond.plain && b.value.free) (branch_shapes bs) ≡ true
@@ -341,7 +331,7 @@ module _ (on : SortEnvironment) where
   cases_sound : (bs : List Branches) → SoundAs (case_facts (conds bs) (values bs)) (expr_shape_layer (Expr-F.Cases (branch_shapes bs))) (expr_denotation (Expr-F.Cases (denotations bs)))
   cases_sound bs = record {
     loose = case_loose bs;
-    value = λ now after n a k p. case_value now after n a bs k p;
+    value = λ now after n a k p. case_valued now after n a bs k p;
     allows = λ now after n a k p. case_allowed now after n a bs k p;
   }
 
@@ -349,15 +339,6 @@ module _ (on : SortEnvironment) where
 
   abbrev expr_from : Expr-F Choices Exprs Branches → Expr-F Choice Expr Branch
   expr_from = map-Expr Choices Exprs Branches Choice Expr Branch (λ c. c.0) (λ e. e.0) (λ b. b.0)
-
-  abbrev expr_facts : Expr-F Choice Expr Branch → Expr-F ChoiceFacts Facts BranchFacts
-  expr_facts = map-Expr Choice Expr Branch ChoiceFacts Facts BranchFacts (choice_facts_of on) (facts_of on) (branch_facts_of on)
-
-  abbrev expr_shapes : Expr-F Choice Expr Branch → Expr-F Shape Shape BranchShape
-  expr_shapes = map-Expr Choice Expr Branch Shape Shape BranchShape choice_shape shape_of branch_shape
-
-  abbrev expr_denotations : Expr-F Choice Expr Branch → Expr-F Allowed Denotation BranchDenotation
-  expr_denotations = map-Expr Choice Expr Branch Allowed Denotation BranchDenotation choice_allows denotation_of branch_denotation_of
 
   name_value : (now : Environment) → Agrees now → (path : List Name) → IsKept (name_facts (on path)) → Meets (name_facts (on path)) (now path)
   name_value now n path k =
@@ -433,7 +414,7 @@ module _ (on : SortEnvironment) where
   pick_sound : (c : Choices) → SoundAs (pick_facts (choice_facts_of on c.0)) (record { plain = false; free = (choice_shape c.0).free }) (record { value = λ now after. None; allows = choice_allows c.0 })
   pick_sound c = record { loose = λ e. cc; value = λ now after n u k p. cc; allows = c.1.allows }
 
-  expr_sound : (y : Expr-F Choices Exprs Branches) → SoundAs (expr_layer on (expr_facts (expr_from y))) (expr_shape_layer (expr_shapes (expr_from y))) (expr_denotation (expr_denotations (expr_from y)))
+  expr_sound : (y : Expr-F Choices Exprs Branches) → SoundAs (expr_layer on (expr_facts on (expr_from y))) (expr_shape_layer (expr_shapes (expr_from y))) (expr_denotation (expr_denotations (expr_from y)))
   expr_sound Expr-F.True = alone truth_facts true (λ now after. Some (Truth true)) (λ now after n u k p. (Truth true, refl, record { sort = (true, refl); serves = λ e. (true, refl) }))
   expr_sound Expr-F.False = alone truth_facts true (λ now after. Some (Truth false)) (λ now after n u k p. (Truth false, refl, record { sort = (false, refl); serves = λ e. (false, refl) }))
   expr_sound (Expr-F.Number m) = alone (number_facts m) true (λ now after. Some (Whole (pos m))) (λ now after n u k p. (Whole (pos m), refl, number_value m k))
@@ -447,24 +428,24 @@ module _ (on : SortEnvironment) where
   expr_sound (Expr-F.Pick c) = pick_sound c
 
   -- one layer of the induction
-  choice_step : (d : Choice-F Choice Expr Branch) → SoundAsChoice (choice_layer (choice_facts d)) (choice_shape_layer (choice_shapes d)) (choice_denotation (choice_denotations d)) → SoundChoice (roll-Choice d)
+  choice_step : (d : Choice-F Choice Expr Branch) → SoundAsChoice (choice_layer (choice_facts on d)) (choice_shape_layer (choice_shapes d)) (choice_denotation (choice_denotations d)) → SoundChoice (roll-Choice d)
   choice_step d h =
-      subst (λ (x : ChoiceFacts). SoundAsChoice x (choice_shape (roll-Choice d)) (choice_allows (roll-Choice d))) (sym (fold-roll-Choice ChoiceFacts Facts BranchFacts choice_layer (expr_layer on) branch_layer d))
-      (subst (λ (x : Shape). SoundAsChoice (choice_layer (choice_facts d)) x (choice_allows (roll-Choice d))) (sym (fold-roll-Choice Shape Shape BranchShape choice_shape_layer expr_shape_layer branch_shape_layer d))
-      (subst (λ (x : Allowed). SoundAsChoice (choice_layer (choice_facts d)) (choice_shape_layer (choice_shapes d)) x) (sym (fold-roll-Choice Allowed Denotation BranchDenotation choice_denotation expr_denotation branch_denotation d)) h))
+      subst (λ (x : ChoiceFacts). SoundAsChoice x (choice_shape (roll-Choice d)) (choice_allows (roll-Choice d))) (sym (choice_facts_roll on d))
+      (subst (λ (x : Shape). SoundAsChoice (choice_layer (choice_facts on d)) x (choice_allows (roll-Choice d))) (sym (fold-roll-Choice Shape Shape BranchShape choice_shape_layer expr_shape_layer branch_shape_layer d))
+      (subst (λ (x : Allowed). SoundAsChoice (choice_layer (choice_facts on d)) (choice_shape_layer (choice_shapes d)) x) (sym (choice_roll d)) h))
 
-  expr_step : (d : Expr-F Choice Expr Branch) → SoundAs (expr_layer on (expr_facts d)) (expr_shape_layer (expr_shapes d)) (expr_denotation (expr_denotations d)) → SoundExpr (roll-Expr d)
+  expr_step : (d : Expr-F Choice Expr Branch) → SoundAs (expr_layer on (expr_facts on d)) (expr_shape_layer (expr_shapes d)) (expr_denotation (expr_denotations d)) → SoundExpr (roll-Expr d)
   expr_step d h =
-      subst (λ (x : Facts). SoundAs x (shape_of (roll-Expr d)) (denotation_of (roll-Expr d))) (sym (fold-roll-Expr ChoiceFacts Facts BranchFacts choice_layer (expr_layer on) branch_layer d))
-      (subst (λ (x : Shape). SoundAs (expr_layer on (expr_facts d)) x (denotation_of (roll-Expr d))) (sym (fold-roll-Expr Shape Shape BranchShape choice_shape_layer expr_shape_layer branch_shape_layer d))
-      (subst (λ (x : Denotation). SoundAs (expr_layer on (expr_facts d)) (expr_shape_layer (expr_shapes d)) x) (sym (fold-roll-Expr Allowed Denotation BranchDenotation choice_denotation expr_denotation branch_denotation d)) h))
+      subst (λ (x : Facts). SoundAs x (shape_of (roll-Expr d)) (denotation_of (roll-Expr d))) (sym (facts_roll on d))
+      (subst (λ (x : Shape). SoundAs (expr_layer on (expr_facts on d)) x (denotation_of (roll-Expr d))) (sym (fold-roll-Expr Shape Shape BranchShape choice_shape_layer expr_shape_layer branch_shape_layer d))
+      (subst (λ (x : Denotation). SoundAs (expr_layer on (expr_facts on d)) (expr_shape_layer (expr_shapes d)) x) (sym (denotation_roll d)) h))
 
   branch_step : (x y : Exprs) → SoundBranch (roll-Branch (record { cond = x.0; value = y.0 }))
   branch_step x y =
       let d : Branch-F Choice Expr Branch = record { cond = x.0; value = y.0 } in
-      subst (λ (z : BranchFacts). SoundAsBranch z (branch_shape (roll-Branch d)) (branch_denotation_of (roll-Branch d))) (sym (fold-roll-Branch ChoiceFacts Facts BranchFacts choice_layer (expr_layer on) branch_layer d))
+      subst (λ (z : BranchFacts). SoundAsBranch z (branch_shape (roll-Branch d)) (branch_denotation_of (roll-Branch d))) (sym (branch_facts_roll on x.0 y.0))
       (subst (λ (z : BranchShape). SoundAsBranch (record { cond = facts_of on x.0; value = facts_of on y.0 }) z (branch_denotation_of (roll-Branch d))) (sym (fold-roll-Branch Shape Shape BranchShape choice_shape_layer expr_shape_layer branch_shape_layer d))
-      (subst (λ (z : BranchDenotation). SoundAsBranch (record { cond = facts_of on x.0; value = facts_of on y.0 }) (record { cond = shape_of x.0; value = shape_of y.0 }) z) (sym (fold-roll-Branch Allowed Denotation BranchDenotation choice_denotation expr_denotation branch_denotation d)) (record { cond = x.1; value = y.1 })))
+      (subst (λ (z : BranchDenotation). SoundAsBranch (record { cond = facts_of on x.0; value = facts_of on y.0 }) (record { cond = shape_of x.0; value = shape_of y.0 }) z) (sym (branch_roll x.0 y.0)) (record { cond = x.1; value = y.1 })))
 
   -- each expression that keeps the rules has a value that agrees with its facts
   pub sound : (e : Expr) → SoundExpr e

@@ -9,9 +9,6 @@ use Rattle.smv_meaning.proofs.SlotLemmas.{fixpoint_slots, slot_step_past}
 use Rattle.smv_kinds.specs.declared.sorts.Sort.{Sort}
 use Rattle.smv_kinds.specs.SortsOfNames.{sort_of, symbol_sort, row_variable, sort_slots, AreSorts}
 
-pub sort_slots_past : (program : Program) (table : InstanceTable) (s : ℕ → Option Sort) (k : ℕ) → length table.slots ≤ k → sort_slots program table s k ≡ None
-sort_slots_past program table = slot_step_past table (sort_of (binding_in table) (row_variable table) (symbol_sort program))
-
 pub are_sorts : (program : Program) (table : InstanceTable) (solution : List (Option Sort)) → HasSlots table → ((k : ℕ) → entry solution k ≡ fixpoint (sort_slots program table) k) → AreSorts program table solution
 are_sorts program table solution has right qualified =
     ap (λ (f : ℕ → Option Sort). by_slot table f qualified) (fun_ext right) ∙ sym (fixpoint_slots table has (sort_of (binding_in table) (row_variable table) (symbol_sort program)) qualified)

@@ -16,7 +16,7 @@ use Rattle.smv_kinds.specs.Soundness.{IsTruth, IsCount, Fits}
 use Rattle.smv_kinds.proofs.IntervalLemmas.{both_true, le_then, within_of, low_end, high_end}
 use Rattle.smv_kinds.proofs.ValueLemmas.{count_in, count_is}
 use Rattle.smv_kinds.proofs.PartLemmas.{Inside, inside_self, hull_inside}
-use Rattle.smv_kinds.proofs.MemberLemmas.{In, from_map}
+use Rattle.smv_meaning.proofs.MemberLemmas.{In, from_map}
 
 -- a number of a range
 pub record IsBetween (low high : ℤ) (v : Value) : Type 0 where

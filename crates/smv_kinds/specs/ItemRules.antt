@@ -1,16 +1,14 @@
--- The items of a module in text order, and the rules that each keeps.
-use Rattle.std.specs.Prelude.{Bool, true, ◌&&◌, ◌||◌, List, [], ◌∷◌, map, Option, Some, None}
-use Rattle.std.specs.List.{flat_map, list_all}
+-- The rules that each item keeps.
+use Rattle.std.specs.Prelude.{Bool, true, ◌&&◌, ◌||◌, List, Option, Some, None}
+use Rattle.std.specs.List.{list_all}
+use Rattle.smv_ast.specs.declared.fault.Fault.{Fault}
+use Rattle.smv_ast.specs.declared.fault.Fault.TheVariants as fault
 use Rattle.smv_ast.specs.declared.syntax.Span.{Span}
 use Rattle.smv_ast.specs.declared.syntax.Expr.{Expr}
 use Rattle.smv_ast.specs.declared.syntax.SmvType.{SmvType}
 use Rattle.smv_ast.specs.declared.program.Declared.{Declared}
 use Rattle.smv_ast.specs.declared.program.Declared.TheVariants.{Plain, Instance}
-use Rattle.smv_ast.specs.declared.program.Declaration.{Declaration}
-use Rattle.smv_ast.specs.declared.program.Assignment.{Assignment}
-use Rattle.smv_ast.specs.declared.program.Definition.{Definition}
-use Rattle.smv_ast.specs.declared.program.Section.{Section}
-use Rattle.smv_ast.specs.declared.program.Section.TheVariants as section
+use Rattle.smv_meaning.specs.Items.{Item, Declares, Assigns, Defines, Constrains}
 use Rattle.smv_meaning.specs.Value.{Name}
 use Rattle.smv_kinds.specs.declared.sorts.Sort.{Sort}
 use Rattle.smv_kinds.specs.declared.facts.Facts.{Facts}
@@ -19,50 +17,11 @@ use Rattle.smv_kinds.specs.declared.pass.Pass.TheVariants as pass
 use Rattle.smv_kinds.specs.Sorts.{is_small, type_sort}
 use Rattle.smv_kinds.specs.Facts.{suits}
 
--- the content of an item: the type of a variable, the actuals of an instance, the right side of an
--- assignment to a name or of a definition, or a constraint
-pub data ItemContent : Type 0 where
-  Typed : SmvType → ItemContent
-  Given : List Expr → ItemContent
-  Assigned : Name → Expr → ItemContent
-  Defined : Expr → ItemContent
-  Constrained : Expr → ItemContent
-
--- an item's content with its span
-pub record Item : Type 0 where
-  pub content : ItemContent
-  pub at : Span
-
--- the content of a declaration
-abbrev pub declared_content : Declared → ItemContent
-declared_content (Plain type) = Typed type
-declared_content (Instance called actuals) = Given actuals
-
--- the item of a declaration
-abbrev pub declaration_item : Declaration → Item
-declaration_item d = record { content = declared_content d.what; at = d.at }
-
--- the item of an assignment
-abbrev pub assignment_item : Assignment → Item
-assignment_item a = record { content = Assigned a.name a.right; at = a.at }
-
--- the item of a definition
-abbrev pub definition_item : Definition → Item
-definition_item d = record { content = Defined d.right; at = d.at }
-
--- the items of a section, in the order of the text
-abbrev pub section_items : Section → List Item
-section_items (section.Vars declarations) = map declaration_item declarations
-section_items (section.Assigns assignments) = map assignment_item assignments
-section_items (section.Defines definitions) = map definition_item definitions
-section_items (section.Init e at) = record { content = Constrained e; at = at } ∷ []
-section_items (section.Invar e at) = record { content = Constrained e; at = at } ∷ []
-section_items (section.Trans e at) = record { content = Constrained e; at = at } ∷ []
-section_items (section.InvarSpec e at) = record { content = Constrained e; at = at } ∷ []
-
--- the items of sections
-abbrev pub all_items : List Section → List Item
-all_items sections = flat_map section_items sections
+-- the fault of a pass at a span
+abbrev pub fault_of : Pass → Span → Fault
+fault_of pass.Kinds at = fault.KindMismatch (Some at)
+fault_of pass.Magnitudes at = fault.WideNumber (Some at)
+fault_of pass.Mods at = fault.NegativeMod (Some at)
 
 -- whether a right side suits a variable of this sort; true where the name is no variable
 abbrev pub assignable : Option Sort → Facts → Bool
@@ -94,12 +53,17 @@ actual_keeps p is_instance a = kept p a
 -- over the facts of expressions in an instance, which of them denote instances, and the sorts of
 -- its variables
 module _ (facts : Expr → Facts) (is_instance : Expr → Bool) (target : Name → Option Sort) where
+  -- whether a declared entity keeps the rule of a pass: the type of a variable, or each actual
+  abbrev pub declared_keeps : Pass → Declared → Bool
+  declared_keeps p (Plain type) = type_keeps p type
+  declared_keeps p (Instance called actuals) =
+      list_all (λ e. actual_keeps p (is_instance e) (facts e)) actuals
+
   -- whether an item keeps the rule of a pass: its expressions keep it, and by the rules of kinds a
   -- right side suits its variable, and a constraint fits Boolean
-  abbrev pub keeps : Pass → ItemContent → Bool
-  keeps pass (Typed type) = type_keeps pass type
-  keeps pass (Given actuals) = list_all (λ e. actual_keeps pass (is_instance e) (facts e)) actuals
-  keeps pass (Assigned name right) = kept pass (facts right)
-      && in_kinds pass (assignable (target name) (facts right))
-  keeps pass (Defined right) = kept pass (facts right)
-  keeps pass (Constrained e) = kept pass (facts e) && in_kinds pass (facts e).fits
+  abbrev pub keeps : Pass → Item → Bool
+  keeps p (Declares name what at) = declared_keeps p what
+  keeps p (Assigns left name right at) = kept p (facts right)
+      && in_kinds p (assignable (target name) (facts right))
+  keeps p (Defines name right at) = kept p (facts right)
+  keeps p (Constrains r e at) = kept p (facts e) && in_kinds p (facts e).fits

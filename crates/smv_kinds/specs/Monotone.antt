@@ -1,224 +1,184 @@
--- The sort of an expression is monotone in the sorts of names.
+-- Where the sort of an expression is known, its facts are steady: more sorts of names change nothing.
+-- So the sorts of names are monotone.
 use Rattle.std.specs.Prelude.{◌≡◌, ℕ, List, [], ◌∷◌, map, Option, Some, None, refl}
 use Rattle.std.proofs.Common.{sym, subst, ap, ◌∙◌}
-use Rattle.std.specs.List.{fold}
+use Rattle.std.specs.List.{fold, AllByRecursion}
+use Rattle.smv_ast.specs.declared.syntax.Op.{Op}
 use Rattle.smv_ast.specs.declared.syntax.Expr.{Expr, Expr-F, roll-Expr, fold-roll-Expr, map-Expr, ind-Expr}
 use Rattle.smv_ast.specs.declared.syntax.Choice.{Choice, Choice-F, roll-Choice, fold-roll-Choice, map-Choice}
 use Rattle.smv_ast.specs.declared.syntax.Branch.{Branch, Branch-F, roll-Branch, fold-roll-Branch}
 use Rattle.smv_ast.specs.declared.program.Program.{Program}
 use Rattle.smv_meaning.specs.declared.table.InstanceTable.{InstanceTable}
-use Rattle.smv_meaning.specs.Value.{Name, of_both}
+use Rattle.smv_meaning.specs.Value.{Name}
 use Rattle.fixpoint.specs.Fixpoints.{Under}
 use Rattle.smv_meaning.specs.Paths.{QualifiedName, Binding, IsVariable, IsInstance, IsDefine, IsFormal, IsNothing, resolve}
 use Rattle.smv_meaning.specs.Slots.{binding_in}
 use Rattle.fixpoint.specs.OptionOrder.{Le}
-use Rattle.smv_meaning.specs.Monotone.{then_le}
 use Rattle.smv_meaning.specs.StepMonotone.{slot_step_monotone}
 use Rattle.smv_kinds.specs.declared.sorts.Sort.{Sort}
-use Rattle.smv_kinds.specs.declared.sorts.Sort.TheVariants.{Boolean}
 use Rattle.smv_kinds.specs.declared.facts.Facts.{Facts}
-use Rattle.smv_kinds.specs.Sorts.{join, join_both, result_sort, truth_sort, if_known, negated, defined_sort}
-use Rattle.smv_kinds.specs.Facts.{ChoiceFacts, Parts, Between, within_choice, BranchFacts, SortEnvironment, parts_sort, pick_facts, choice_layer, expr_layer, branch_layer, facts_of, choice_facts_of, branch_facts_of, cases}
+use Rattle.smv_kinds.specs.Sorts.{join_both, binary_sort, truth_sort, if_known, negated_sort, defined_sort}
+use Rattle.smv_kinds.specs.Facts.{name_facts, negation_facts, not_facts, next_facts, binary_facts, parts_sort, case_facts, ChoiceFacts, Parts, Between, BranchFacts, SortEnvironment, pick_facts, within_choice, choice_layer, expr_layer, branch_layer, facts_of, choice_facts_of, branch_facts_of}
 use Rattle.smv_kinds.specs.SortsOfNames.{Sorts, sort_at, sorting_by, sort_by, sort_of, symbol_sort, row_variable, sort_slots}
 
--- a function of two known sorts is monotone
-both_le : {A B C : Type 0} (f : A → B → Option C) (o o' : Option A) (q q' : Option B) → Le o o'
-    → Le q q' → Le (of_both f o q) (of_both f o' q')
-both_le f o o' q q' h k = then_le o o' _ _ h (λ a. then_le q q' (f a) (f a) k (λ b c e. e))
+-- a sort is known
+abbrev pub IsKnown : Option Sort → Type 0
+IsKnown o = (s : Sort) × (o ≡ Some s)
+
+unknown : {P : Type 0} → IsKnown None → P
+unknown k = let e = k.1 in cc
+
+if_known_known : (s t : Option Sort) → IsKnown (if_known s t) → IsKnown s × IsKnown t
+if_known_known None t k = unknown k
+if_known_known (Some a) t k = ((a, refl), k)
+
+truth_known : (s : Option Sort) → IsKnown (truth_sort s) → IsKnown s
+truth_known None k = unknown k
+truth_known (Some a) k = (a, refl)
+
+negated_known : (s : Option Sort) → IsKnown (negated_sort s) → IsKnown s
+negated_known None k = unknown k
+negated_known (Some a) k = (a, refl)
+
+both_known : (o : Op) (s t : Option Sort) → IsKnown (binary_sort o s t) → IsKnown s × IsKnown t
+both_known o None t k = unknown k
+both_known o (Some a) None k = unknown k
+both_known o (Some a) (Some b) k = ((a, refl), (b, refl))
+
+join_known : (s t : Option Sort) → IsKnown (join_both s t) → IsKnown s × IsKnown t
+join_known None t k = unknown k
+join_known (Some a) None k = unknown k
+join_known (Some a) (Some b) k = ((a, refl), (b, refl))
+
+tail_known : (xs : List Facts) (o : Option Sort) → IsKnown (fold (λ sort a. join_both sort a.sort) o xs) → IsKnown o × AllByRecursion (λ x. IsKnown x.sort) xs
+tail_known [] o k = (k, tt)
+tail_known (x ∷ xs) o k =
+    let r = tail_known xs (join_both o x.sort) k in
+    let j = join_known o x.sort r.0 in
+    (j.0, (j.1, r.1))
+
+parts_known : (xs : List Facts) → IsKnown (parts_sort xs) → AllByRecursion (λ x. IsKnown x.sort) xs
+parts_known [] k = tt
+parts_known (x ∷ xs) k = (tail_known (x ∷ xs) x.sort k).1
+
+-- the facts of the parts of a choice
+abbrev pub choice_facts : SortEnvironment → Choice-F Choice Expr Branch → Choice-F ChoiceFacts Facts BranchFacts
+choice_facts on = map-Choice Choice Expr Branch ChoiceFacts Facts BranchFacts (choice_facts_of on) (facts_of on) (branch_facts_of on)
+
+-- the facts of the parts of an expression
+abbrev pub expr_facts : SortEnvironment → Expr-F Choice Expr Branch → Expr-F ChoiceFacts Facts BranchFacts
+expr_facts on = map-Expr Choice Expr Branch ChoiceFacts Facts BranchFacts (choice_facts_of on) (facts_of on) (branch_facts_of on)
+
+pub choice_facts_roll : (on : SortEnvironment) (d : Choice-F Choice Expr Branch) → choice_facts_of on (roll-Choice d) ≡ choice_layer (choice_facts on d)
+choice_facts_roll on d = fold-roll-Choice ChoiceFacts Facts BranchFacts choice_layer (expr_layer on) branch_layer d
+
+pub facts_roll : (on : SortEnvironment) (d : Expr-F Choice Expr Branch) → facts_of on (roll-Expr d) ≡ expr_layer on (expr_facts on d)
+facts_roll on d = fold-roll-Expr ChoiceFacts Facts BranchFacts choice_layer (expr_layer on) branch_layer d
+
+pub branch_facts_roll : (on : SortEnvironment) (a b : Expr) → branch_facts_of on (roll-Branch (record { cond = a; value = b })) ≡ record { cond = facts_of on a; value = facts_of on b }
+branch_facts_roll on a b = fold-roll-Branch ChoiceFacts Facts BranchFacts choice_layer (expr_layer on) branch_layer (record { cond = a; value = b })
 
 module _ (on on' : SortEnvironment) (under : Under on on') where
-  -- the sort of an expression is monotone
-  abbrev IsExprMonotone : Expr → Type 0
-  IsExprMonotone e = Le (facts_of on e).sort (facts_of on' e).sort
+  -- the facts are stable
+  abbrev SteadyExpr : Expr → Type 0
+  SteadyExpr e = IsKnown (facts_of on e).sort → facts_of on e ≡ facts_of on' e
 
-  -- the sort of a choice is monotone
-  abbrev IsChoiceMonotone : Choice → Type 0
-  IsChoiceMonotone c = Le (pick_facts (choice_facts_of on c)).sort (pick_facts (choice_facts_of on' c)).sort
+  abbrev SteadyChoice : Choice → Type 0
+  SteadyChoice c = IsKnown (pick_facts (choice_facts_of on c)).sort → choice_facts_of on c ≡ choice_facts_of on' c
 
-  -- the sorts of both parts of a branch are monotone
-  abbrev IsBranchMonotone : Branch → Type 0
-  IsBranchMonotone b = Le (branch_facts_of on b).cond.sort (branch_facts_of on' b).cond.sort
-      × Le (branch_facts_of on b).value.sort (branch_facts_of on' b).value.sort
+  record SteadyBranch (b : Branch) : Type 0 where
+    cond : IsKnown (branch_facts_of on b).cond.sort → (branch_facts_of on b).cond ≡ (branch_facts_of on' b).cond
+    value : IsKnown (branch_facts_of on b).value.sort → (branch_facts_of on b).value ≡ (branch_facts_of on' b).value
 
-  -- choices with a monotone sort
-  abbrev Choices : Type 0
-  Choices = (c : Choice) × IsChoiceMonotone c
-
-  -- expressions with a monotone sort
   abbrev Exprs : Type 0
-  Exprs = (e : Expr) × IsExprMonotone e
+  Exprs = (e : Expr) × SteadyExpr e
 
-  -- branches with monotone sorts
+  abbrev Choices : Type 0
+  Choices = (c : Choice) × SteadyChoice c
+
   abbrev Branches : Type 0
-  Branches = (b : Branch) × IsBranchMonotone b
+  Branches = (b : Branch) × SteadyBranch b
 
-  -- the sort of one of these is monotone where each is
+  -- lists whose members are stable
   module _ {X : Type 0} (f g : X → Facts) where
-    -- the fold over the tail is monotone
-    tail_monotone : (xs : List ((x : X) × Le (f x).sort (g x).sort)) (o q : Option Sort) → Le o q →
-        Le (fold (λ sort a. join_both sort a.sort) o (map f (map (λ x. x.0) xs)))
-        (fold (λ sort a. join_both sort a.sort) q (map g (map (λ x. x.0) xs)))
-    tail_monotone [] o q h = h
-    tail_monotone (x ∷ xs) o q h = tail_monotone xs _ _
-        (both_le (λ a b. Some (join a b)) o q (f x.0).sort (g x.0).sort h x.1)
+    list_steady : (xs : List ((x : X) × (IsKnown (f x).sort → f x ≡ g x))) → AllByRecursion (λ a. IsKnown a.sort) (map f (map (λ x. x.0) xs)) → map f (map (λ x. x.0) xs) ≡ map g (map (λ x. x.0) xs)
+    list_steady [] k = refl
+    list_steady (x ∷ xs) k = ap (λ a. a ∷ map f (map (λ x. x.0) xs)) (x.1 k.0) ∙ ap (λ more. g x.0 ∷ more) (list_steady xs k.1)
 
-    -- the fold over the whole list is monotone
-    parts_monotone : (xs : List ((x : X) × Le (f x).sort (g x).sort))
-        → Le (parts_sort (map f (map (λ x. x.0) xs))) (parts_sort (map g (map (λ x. x.0) xs)))
-    parts_monotone [] = λ s e. e
-    parts_monotone (x ∷ xs) = tail_monotone (x ∷ xs) (f x.0).sort (g x.0).sort x.1
-
-  -- the facts of the parts of a choice
-  abbrev choice_facts : SortEnvironment → Choice-F Choice Expr Branch → Choice-F ChoiceFacts Facts BranchFacts
-  choice_facts s = map-Choice Choice Expr Branch ChoiceFacts Facts BranchFacts (choice_facts_of s) (facts_of s)
-      (branch_facts_of s)
-
-  -- the facts of the parts of an expression
-  abbrev expr_facts : SortEnvironment → Expr-F Choice Expr Branch → Expr-F ChoiceFacts Facts BranchFacts
-  expr_facts s = map-Expr Choice Expr Branch ChoiceFacts Facts BranchFacts (choice_facts_of s) (facts_of s)
-      (branch_facts_of s)
-
-  -- the underlying choice
   abbrev choice_from : Choice-F Choices Exprs Branches → Choice-F Choice Expr Branch
-  choice_from = map-Choice Choices Exprs Branches Choice Expr Branch (λ c. c.0) (λ e. e.0)
-      (λ b. b.0)
+  choice_from = map-Choice Choices Exprs Branches Choice Expr Branch (λ c. c.0) (λ e. e.0) (λ b. b.0)
 
-  -- the underlying expression
   abbrev expr_from : Expr-F Choices Exprs Branches → Expr-F Choice Expr Branch
   expr_from = map-Expr Choices Exprs Branches Choice Expr Branch (λ c. c.0) (λ e. e.0) (λ b. b.0)
 
-  -- the sort of a choice is monotone where its parts are
-  choice_monotone : (y : Choice-F Choices Exprs Branches)
-      → Le (pick_facts (choice_layer (choice_facts on (choice_from y)))).sort
-      (pick_facts (choice_layer (choice_facts on' (choice_from y)))).sort
-  choice_monotone (Choice-F.Each parts) = parts_monotone (facts_of on) (facts_of on') parts
-  choice_monotone (Choice-F.Between low high) = λ s e. e
+  choice_steady : (y : Choice-F Choices Exprs Branches) → IsKnown (pick_facts (choice_layer (choice_facts on (choice_from y)))).sort → choice_layer (choice_facts on (choice_from y)) ≡ choice_layer (choice_facts on' (choice_from y))
+  choice_steady (Choice-F.Each xs) k = ap Parts (list_steady (facts_of on) (facts_of on') xs (parts_known (map (facts_of on) (map (λ x. x.0) xs)) k))
+  choice_steady (Choice-F.Between low high) k = refl
 
-  -- `if_known` is monotone
-  if_known_monotone : (s s' t t' : Option Sort) → Le s s' → Le t t' → Le (if_known s t) (if_known s' t')
-  if_known_monotone s s' t t' h k = then_le s s' (λ a. t) (λ a. t') h (λ a. k)
+  -- the conditions and the values of a case
+  part_list : (part : BranchFacts → Facts) (bs : List Branches) → ((b : Branches) → IsKnown (part (branch_facts_of on b.0)).sort → part (branch_facts_of on b.0) ≡ part (branch_facts_of on' b.0)) → AllByRecursion (λ a. IsKnown a.sort) (map part (map (branch_facts_of on) (map (λ b. b.0) bs))) →
+      map part (map (branch_facts_of on) (map (λ b. b.0) bs)) ≡ map part (map (branch_facts_of on') (map (λ b. b.0) bs))
+  part_list part [] h k = refl
+  part_list part (b ∷ bs) h k = ap (λ a. a ∷ map part (map (branch_facts_of on) (map (λ b. b.0) bs))) (h b k.0) ∙ ap (λ more. part (branch_facts_of on' b.0) ∷ more) (part_list part bs h k.1)
 
-  -- `truth_sort` is monotone
-  truth_monotone : (s s' : Option Sort) → Le s s' → Le (truth_sort s) (truth_sort s')
-  truth_monotone s s' h = then_le s s' (λ a. Some Boolean) (λ a. Some Boolean) h (λ a b e. e)
+  cases_steady : (bs : List Branches) → let c : SortEnvironment → List Facts = (λ s. map (λ g. g.cond) (map (branch_facts_of s) (map (λ b. b.0) bs))) in let v : SortEnvironment → List Facts = (λ s. map (λ g. g.value) (map (branch_facts_of s) (map (λ b. b.0) bs))) in
+      IsKnown (case_facts (c on) (v on)).sort → case_facts (c on) (v on) ≡ case_facts (c on') (v on')
+  cases_steady bs k =
+      let cs : List Facts = map (λ g. g.cond) (map (branch_facts_of on) (map (λ b. b.0) bs)) in
+      let vs : List Facts = map (λ g. g.value) (map (branch_facts_of on) (map (λ b. b.0) bs)) in
+      let b = if_known_known (parts_sort cs) (parts_sort vs) k in
+      let x = part_list (λ g. g.cond) bs (λ b. b.1.cond) (parts_known cs b.0) in
+      let y = part_list (λ g. g.value) bs (λ b. b.1.value) (parts_known vs b.1) in
+      ap (λ (z : List Facts). case_facts z vs) x ∙ ap (case_facts (map (λ g. g.cond) (map (branch_facts_of on') (map (λ b. b.0) bs)))) y
 
-  -- the sort of a case is monotone where its conditions and values are
-  cases_monotone : (branches : List Branches)
-      → Le (cases (map (branch_facts_of on) (map (λ b. b.0) branches))).sort
-      (cases (map (branch_facts_of on') (map (λ b. b.0) branches))).sort
-  cases_monotone branches =
-      let bs = map (λ b. b.0) branches in
-      let conds : Le (parts_sort (map (λ g. g.cond) (map (branch_facts_of on) bs))) (parts_sort (map (λ g. g.cond) (map (branch_facts_of on') bs))) =
-      rw (parts_of on (λ g. g.cond) bs, parts_of on' (λ g. g.cond) bs, conditions branches)
-      (parts_monotone (λ b. (branch_facts_of on b).cond) (λ b. (branch_facts_of on' b).cond)
-      (map (λ b. (b.0, b.1.0)) branches)) in
-      let vals : Le (parts_sort (map (λ g. g.value) (map (branch_facts_of on) bs))) (parts_sort (map (λ g. g.value) (map (branch_facts_of on') bs))) =
-      rw (parts_of on (λ g. g.value) bs, parts_of on' (λ g. g.value) bs, values branches)
-      (parts_monotone (λ b. (branch_facts_of on b).value) (λ b. (branch_facts_of on' b).value)
-      (map (λ b. (b.0, b.1.1)) branches)) in
-      if_known_monotone (parts_sort (map (λ g. g.cond) (map (branch_facts_of on) bs)))
-      (parts_sort (map (λ g. g.cond) (map (branch_facts_of on') bs)))
-      (parts_sort (map (λ g. g.value) (map (branch_facts_of on) bs)))
-      (parts_sort (map (λ g. g.value) (map (branch_facts_of on') bs))) conds vals
-    where
-      parts_of : (s : SortEnvironment) (part : BranchFacts → Facts) (bs : List Branch)
-          → map part (map (branch_facts_of s) bs) ≡ map (λ b. part (branch_facts_of s b)) bs
-      parts_of s part [] = refl
-      parts_of s part (b ∷ bs) = ap (λ more. part (branch_facts_of s b) ∷ more) (parts_of s part bs)
+  within_known : (a : Facts) (o : ChoiceFacts) → IsKnown (within_choice a o).sort → IsKnown a.sort × IsKnown (pick_facts o).sort
+  within_known a (Parts parts) k = let b = if_known_known a.sort (truth_sort (parts_sort parts)) k in (b.0, truth_known (parts_sort parts) b.1)
+  within_known a (Between low high) k = (truth_known a.sort k, (_, refl))
 
-      conditions : (bs : List Branches) → map (λ b. b.0) bs
-          ≡ map (λ (x : (b : Branch) × Le (branch_facts_of on b).cond.sort (branch_facts_of on' b).cond.sort).
-          x.0) (map (λ b. (b.0, b.1.0)) bs)
-      conditions [] = refl
-      conditions (b ∷ bs) = ap (λ more. b.0 ∷ more) (conditions bs)
+  name_steady : (o q : Option Sort) → ((s : Sort) → o ≡ Some s → q ≡ Some s) → IsKnown o → name_facts o ≡ name_facts q
+  name_steady o q u k = ap name_facts (k.1 ∙ sym (u k.0 k.1))
 
-      values : (bs : List Branches) → map (λ b. b.0) bs
-          ≡ map (λ (x : (b : Branch) × Le (branch_facts_of on b).value.sort
-          (branch_facts_of on' b).value.sort). x.0) (map (λ b. (b.0, b.1.1)) bs)
-      values [] = refl
-      values (b ∷ bs) = ap (λ more. b.0 ∷ more) (values bs)
+  expr_steady : (y : Expr-F Choices Exprs Branches) → IsKnown (expr_layer on (expr_facts on (expr_from y))).sort → expr_layer on (expr_facts on (expr_from y)) ≡ expr_layer on' (expr_facts on' (expr_from y))
+  expr_steady Expr-F.True k = refl
+  expr_steady Expr-F.False k = refl
+  expr_steady (Expr-F.Number n) k = refl
+  expr_steady (Expr-F.Name path) k = name_steady (on path.names) (on' path.names) (under path.names) k
+  expr_steady (Expr-F.Neg a) k = ap negation_facts (a.1 (negated_known (facts_of on a.0).sort k))
+  expr_steady (Expr-F.Not a) k = ap not_facts (a.1 (truth_known (facts_of on a.0).sort k))
+  expr_steady (Expr-F.Binary op a b) k =
+      let t = both_known op (facts_of on a.0).sort (facts_of on b.0).sort k in
+      ap (λ (x : Facts). binary_facts op x (facts_of on b.0)) (a.1 t.0) ∙ ap (binary_facts op (facts_of on' a.0)) (b.1 t.1)
+  expr_steady (Expr-F.Within a c) k =
+      let t = within_known (facts_of on a.0) (choice_facts_of on c.0) k in
+      ap (λ (x : Facts). within_choice x (choice_facts_of on c.0)) (a.1 t.0) ∙ ap (within_choice (facts_of on' a.0)) (c.1 t.1)
+  expr_steady (Expr-F.Cases branches) k = cases_steady branches k
+  expr_steady (Expr-F.Next a) k = ap next_facts (a.1 k)
+  expr_steady (Expr-F.Pick c) k = ap pick_facts (c.1 k)
 
-  -- the sort of an expression is monotone where its parts are
-  expr_monotone : (y : Expr-F Choices Exprs Branches)
-      → Le (expr_layer on (expr_facts on (expr_from y))).sort
-      (expr_layer on' (expr_facts on' (expr_from y))).sort
-  expr_monotone Expr-F.True = λ s e. e
-  expr_monotone Expr-F.False = λ s e. e
-  expr_monotone (Expr-F.Number n) = λ s e. e
-  expr_monotone (Expr-F.Name path) = under path.names
-  expr_monotone (Expr-F.Neg a) = then_le (facts_of on a.0).sort (facts_of on' a.0).sort
-      (λ s. Some (negated s)) (λ s. Some (negated s)) a.1 (λ s t e. e)
-  expr_monotone (Expr-F.Not a) = truth_monotone (facts_of on a.0).sort (facts_of on' a.0).sort a.1
-  expr_monotone (Expr-F.Binary op a b) = both_le (λ s t. Some (result_sort op s t))
-      (facts_of on a.0).sort (facts_of on' a.0).sort (facts_of on b.0).sort (facts_of on' b.0).sort
-      a.1 b.1
-  expr_monotone (Expr-F.Within a c) =
-      rw (
-        within_sort (facts_of on a.0) (choice_facts_of on c.0),
-        within_sort (facts_of on' a.0)
-            (choice_facts_of on' c.0),
-      )
-      (if_known_monotone (facts_of on a.0).sort (facts_of on' a.0).sort
-      (truth_sort (pick_facts (choice_facts_of on c.0)).sort)
-      (truth_sort (pick_facts (choice_facts_of on' c.0)).sort) a.1
-      (truth_monotone (pick_facts (choice_facts_of on c.0)).sort (pick_facts (choice_facts_of on' c.0)).sort c.1))
-    where
-      within_sort : (a : Facts) (o : ChoiceFacts) → (within_choice a o).sort
-          ≡ if_known a.sort (truth_sort (pick_facts o).sort)
-      within_sort a (Parts parts) = refl
-      within_sort a (Between low high) = refl
-  expr_monotone (Expr-F.Cases branches) = cases_monotone branches
-  expr_monotone (Expr-F.Next a) = a.1
-  expr_monotone (Expr-F.Pick c) = c.1
+  choice_step : (d : Choice-F Choice Expr Branch) → (IsKnown (pick_facts (choice_layer (choice_facts on d))).sort → choice_layer (choice_facts on d) ≡ choice_layer (choice_facts on' d)) → SteadyChoice (roll-Choice d)
+  choice_step d h k = choice_facts_roll on d ∙ (h (subst (λ (x : ChoiceFacts). IsKnown (pick_facts x).sort) (choice_facts_roll on d) k) ∙ sym (choice_facts_roll on' d))
 
-  -- one layer of the induction: a choice
-  choice_step : (d : Choice-F Choice Expr Branch)
-      → Le (pick_facts (choice_layer (choice_facts on d))).sort
-      (pick_facts (choice_layer (choice_facts on' d))).sort → IsChoiceMonotone (roll-Choice d)
-  choice_step d h =
-      subst (λ x. Le (pick_facts x).sort (pick_facts (choice_facts_of on' (roll-Choice d))).sort)
-      (sym (fold-roll-Choice ChoiceFacts Facts BranchFacts choice_layer (expr_layer on) branch_layer d))
-      (subst (λ x. Le (pick_facts (choice_layer (choice_facts on d))).sort (pick_facts x).sort)
-      (sym (fold-roll-Choice ChoiceFacts Facts BranchFacts choice_layer (expr_layer on') branch_layer d))
-      h)
+  expr_step : (d : Expr-F Choice Expr Branch) → (IsKnown (expr_layer on (expr_facts on d)).sort → expr_layer on (expr_facts on d) ≡ expr_layer on' (expr_facts on' d)) → SteadyExpr (roll-Expr d)
+  expr_step d h k = facts_roll on d ∙ (h (subst (λ (x : Facts). IsKnown x.sort) (facts_roll on d) k) ∙ sym (facts_roll on' d))
 
-  -- one layer of the induction: an expression
-  expr_step : (d : Expr-F Choice Expr Branch)
-      → Le (expr_layer on (expr_facts on d)).sort (expr_layer on' (expr_facts on' d)).sort
-      → IsExprMonotone (roll-Expr d)
-  expr_step d h =
-      subst (λ (x : Facts). Le x.sort (facts_of on' (roll-Expr d)).sort)
-      (sym (fold-roll-Expr ChoiceFacts Facts BranchFacts choice_layer (expr_layer on) branch_layer d))
-      (subst (λ (x : Facts). Le (expr_layer on (expr_facts on d)).sort x.sort)
-      (sym (fold-roll-Expr ChoiceFacts Facts BranchFacts choice_layer (expr_layer on') branch_layer d)) h)
+  branch_step : (x y : Exprs) → SteadyBranch (roll-Branch (record { cond = x.0; value = y.0 }))
+  branch_step x y =
+      let p = branch_facts_roll on x.0 y.0 in
+      let q = branch_facts_roll on' x.0 y.0 in
+      record {
+        cond = λ k. ap (λ (g : BranchFacts). g.cond) p ∙ (x.1 (subst (λ (g : BranchFacts). IsKnown g.cond.sort) p k) ∙ sym (ap (λ (g : BranchFacts). g.cond) q));
+        value = λ k. ap (λ (g : BranchFacts). g.value) p ∙ (y.1 (subst (λ (g : BranchFacts). IsKnown g.value.sort) p k) ∙ sym (ap (λ (g : BranchFacts). g.value) q));
+      }
 
-  -- one layer of the induction: a branch
-  branch_step : (a b : Exprs) → IsBranchMonotone (roll-Branch (record { cond = a.0; value = b.0 }))
-  branch_step a b =
-      subst (λ (x : BranchFacts). Le x.cond.sort
-      (branch_facts_of on' (roll-Branch (record { cond = a.0; value = b.0 }))).cond.sort
-      × Le x.value.sort (branch_facts_of on'
-      (roll-Branch (record { cond = a.0; value = b.0 }))).value.sort)
-      (sym (fold-roll-Branch ChoiceFacts Facts BranchFacts choice_layer (expr_layer on) branch_layer
-      (record { cond = a.0; value = b.0 })))
-      (subst (λ (x : BranchFacts). Le (facts_of on a.0).sort x.cond.sort
-      × Le (facts_of on b.0).sort x.value.sort)
-      (sym (fold-roll-Branch ChoiceFacts Facts BranchFacts choice_layer (expr_layer on') branch_layer
-      (record { cond = a.0; value = b.0 }))) (a.1, b.1))
-
-  -- the sort of each expression is monotone
-  facts_monotone : (e : Expr) → IsExprMonotone e
-  facts_monotone = ind-Expr IsChoiceMonotone IsExprMonotone IsBranchMonotone
-      (λ x y e. subst (λ (d : Choice-F Choice Expr Branch). IsChoiceMonotone (roll-Choice d)) e
-      (choice_step (choice_from y) (choice_monotone y)))
-      (λ x y e. subst (λ (d : Expr-F Choice Expr Branch). IsExprMonotone (roll-Expr d)) e
-      (expr_step (expr_from y) (expr_monotone y)))
-      (λ x y e. subst (λ (d : Branch-F Choice Expr Branch). IsBranchMonotone (roll-Branch d)) e
-      (branch_step y.cond y.value))
+  pub steady : (e : Expr) → SteadyExpr e
+  steady = ind-Expr SteadyChoice SteadyExpr SteadyBranch
+      (λ x y e. subst (λ (d : Choice-F Choice Expr Branch). SteadyChoice (roll-Choice d)) e (choice_step (choice_from y) (choice_steady y)))
+      (λ x y e. subst (λ (d : Expr-F Choice Expr Branch). SteadyExpr (roll-Expr d)) e (expr_step (expr_from y) (expr_steady y)))
+      (λ x y e. subst (λ (d : Branch-F Choice Expr Branch). SteadyBranch (roll-Branch d)) e (branch_step y.cond y.value))
 
 module _ {P : Type 0} (binding : QualifiedName P → Option (Binding P)) (variable : QualifiedName P → Sort) (symbols : SortEnvironment) where
   -- the sort of a path is monotone in the sorts of names
-  at_path_monotone : (s t : Sorts P) → Under s t → (path : List Name) (o : Option (QualifiedName P))
+  pub at_path_monotone : (s t : Sorts P) → Under s t → (path : List Name) (o : Option (QualifiedName P))
       → Le (sort_at symbols s path o) (sort_at symbols t path o)
   at_path_monotone s t u path None = λ v e. e
   at_path_monotone s t u path (Some qualified) = u qualified
@@ -227,9 +187,11 @@ module _ {P : Type 0} (binding : QualifiedName P → Option (Binding P)) (variab
   read_monotone : (s t : Sorts P) → Under s t → (instance : P) (e : Expr)
       → Le (sort_by binding variable symbols s instance e)
       (sort_by binding variable symbols t instance e)
-  read_monotone s t u instance e = facts_monotone (sorting_by binding variable symbols s instance)
+  read_monotone s t u instance e v known =
+      let same = steady (sorting_by binding variable symbols s instance)
       (sorting_by binding variable symbols t instance)
-      (λ path. at_path_monotone s t u path (resolve binding instance path)) e
+      (λ path. at_path_monotone s t u path (resolve binding instance path)) e (v, known) in
+      sym (ap (λ (a : Facts). a.sort) same) ∙ known
 
   -- `defined_sort` is monotone
   defined_monotone : (s s' : Option Sort) → Le s s' → Le (defined_sort s) (defined_sort s')

@@ -9,9 +9,11 @@ use Rattle.smv_meaning.specs.declared.value.Value.{Value}
 use Rattle.smv_meaning.specs.declared.value.Value.TheVariants.{Number as Whole, Symbol as Word}
 use Rattle.smv_meaning.specs.Value.{Name, and_then, truth, same}
 use Rattle.smv_ast.specs.declared.program.Program.{Program}
-use Rattle.smv_meaning.specs.Instances.{Instance, module_at, instances}
+use Rattle.smv_meaning.specs.Instances.{Instance, instances}
 use Rattle.smv_meaning.specs.Values.{State, value_in, allows_in}
-use Rattle.smv_meaning.specs.Runs.{IsState}
+use Rattle.smv_meaning.specs.Items.{Item, Declares, Assigns, Defines, Constrains, declared_exprs, exprs_of}
+use Rattle.smv_meaning.specs.ItemIndex.{items_at}
+use Rattle.smv_meaning.specs.Runs.{IsState, each_item}
 use Rattle.smv_kinds.specs.declared.intervals.Interval.{Interval}
 use Rattle.smv_kinds.specs.declared.sorts.Sort.{Sort}
 use Rattle.smv_kinds.specs.declared.sorts.Sort.TheVariants.{Boolean, Number, Symbol, Alias, Nothing}
@@ -19,7 +21,6 @@ use Rattle.smv_kinds.specs.declared.facts.Facts.{Facts}
 use Rattle.smv_kinds.specs.Intervals.{is_within}
 use Rattle.smv_kinds.specs.Parts.{IsPart}
 use Rattle.smv_kinds.specs.SortsOfNames.{facts_in, is_instance}
-use Rattle.smv_kinds.specs.ItemRules.{ItemContent, Typed, Given, Assigned, Defined, Constrained, Item, all_items}
 
 -- a value that may be used as a truth value
 abbrev pub IsTruth : Value → Type 0
@@ -123,18 +124,13 @@ branch_shape = fold-Branch Shape Shape BranchShape choice_shape_layer expr_shape
 
 -- whether the choices of an item are where they may be: on top of the right side of an assignment,
 -- in the values of a case there, and after `in`
-abbrev pub is_shaped : ItemContent → Bool
-is_shaped (Typed type) = true
-is_shaped (Given actuals) = list_all (λ e. (shape_of e).plain) actuals
-is_shaped (Assigned name right) = (shape_of right).free
-is_shaped (Defined right) = (shape_of right).plain
-is_shaped (Constrained e) = (shape_of e).plain
+abbrev pub is_shaped : Item → Bool
+is_shaped (Assigns left name right at) = (shape_of right).free
+is_shaped item = list_all (λ e. (shape_of e).plain) (exprs_of item)
 
 -- the choices of all items of all instances are where they may be
 abbrev pub AreShaped : Program → Type 0
-AreShaped program = list_all
-    (λ instance. list_all (λ item. is_shaped item.content)
-    (all_items (module_at program instance).sections)) (instances program) ≡ true
+AreShaped program = each_item program (λ instance item. is_shaped item) ≡ true
 
 -- an expression that keeps the rules in an instance
 abbrev pub IsKeptIn : Program → Instance → Expr → Type 0
@@ -150,25 +146,22 @@ pub record Allows (f : Facts) (allows : Value → Option Bool) : Type 0 where
 -- the values of an item in an instance and two states: a constraint has a truth value, the right
 -- side of an assignment allows values, a definition has a value of its sort, and so has each actual
 -- that denotes no instance
-abbrev pub HasValues : Program → Instance → State → State → ItemContent → Type 0
-HasValues program instance s t (Typed type) = Unit {0}
-HasValues program instance s t (Given actuals) = (e : Expr) → Contains actuals e
-    → (is_instance program instance e ≡ true)
+abbrev pub HasValues : Program → Instance → State → State → Item → Type 0
+HasValues program instance s t (Declares name what at) = (e : Expr)
+    → Contains (declared_exprs what) e → (is_instance program instance e ≡ true)
     ⊎ Meets (facts_in program instance e) (value_in program s t instance e)
-HasValues program instance s t (Assigned name right) = Allows (facts_in program instance right)
-    (allows_in program s t instance right)
-HasValues program instance s t (Defined right) = Meets (facts_in program instance right)
+HasValues program instance s t (Assigns left name right at) =
+    Allows (facts_in program instance right) (allows_in program s t instance right)
+HasValues program instance s t (Defines name right at) = Meets (facts_in program instance right)
     (value_in program s t instance right)
-HasValues program instance s t (Constrained e) = (b : Bool)
+HasValues program instance s t (Constrains r e at) = (b : Bool)
     × (and_then (value_in program s t instance e) truth ≡ Some b)
 
 -- the expressions of an item that have values: all but the actuals that denote instances
-abbrev pub value_expressions : (Expr → Bool) → ItemContent → List Expr
-value_expressions is_instance (Typed type) = []
-value_expressions is_instance (Given actuals) = filter (λ e. not (is_instance e)) actuals
-value_expressions is_instance (Assigned name right) = right ∷ []
-value_expressions is_instance (Defined right) = right ∷ []
-value_expressions is_instance (Constrained e) = e ∷ []
+abbrev pub value_expressions : (Expr → Bool) → Item → List Expr
+value_expressions is_instance (Declares name what at) =
+    filter (λ e. not (is_instance e)) (declared_exprs what)
+value_expressions is_instance item = exprs_of item
 
 -- an expression that is defined in an instance and two states: it keeps the rules, has a value of
 -- its sort if it has no choice but after `in`, and as a right side allows some values, each equal
@@ -186,12 +179,12 @@ pub record IsDefined (program : Program) (instance : Instance) (s t : State) (e 
 pub record IsSound (program : Program) : Type 0 where
   pub items : (instance : Instance) (item : Item) (s t : State)
       → Contains (instances program) instance
-      → Contains (all_items (module_at program instance).sections) item → IsState program s
-      → IsState program t → HasValues program instance s t item.content
+      → Contains (items_at program instance) item → IsState program s
+      → IsState program t → HasValues program instance s t item
   pub parts : (instance : Instance) (item : Item) (e part : Expr) (s t : State)
       → Contains (instances program) instance
-      → Contains (all_items (module_at program instance).sections) item →
-      Contains (value_expressions (is_instance program instance) item.content) e → IsPart e part
+      → Contains (items_at program instance) item →
+      Contains (value_expressions (is_instance program instance) item) e → IsPart e part
       → IsState program s → IsState program t → IsDefined program instance s t part
   pub value : (instance : Instance) (e : Expr) (s t : State) → Contains (instances program) instance
       → IsState program s → IsState program t → IsKeptIn program instance e → (shape_of e).plain

@@ -4,96 +4,71 @@ ghost use Rattle.std.specs.Prelude.{◌≡◌, ◌<◌, IfOk, length, map};
 ghost use Rattle.smv_meaning.specs.Checking as checking;
 ghost use Rattle.smv_meaning.specs.Faults.{ReportsFirst};
 ghost use Rattle.smv_meaning.specs.Instances.{instances};
-ghost use Rattle.smv_meaning.specs.Sections.{IsSectionIndex};
+ghost use Rattle.smv_meaning.specs.ItemIndex.{IsItemIndex};
 ghost use Rattle.smv_meaning.specs.Slots as slots;
 ghost use Rattle.smv_kinds.specs.SortsOfNames as readings;
 ghost use Rattle.smv_kinds.specs.Rules as spec;
 ghost use Rattle.smv_kinds.specs.Soundness as soundness;
 
 use crate::context::KindContext;
-use crate::instance_context::InstanceContext;
-use crate::items::sections_first;
-use crate::pass::{Pass, pass_fault};
+use crate::instance_rule::InstanceRule;
+use crate::pass::Pass;
 use crate::solution::sorts_of;
 use crate::sorts::Sort;
-use smv_ast::{Fault, NoMemory, Program, Span};
-use smv_meaning::sections::SectionsByName;
+use smv_ast::{Fault, Program};
+use smv_meaning::item_index::ItemsByName;
+use smv_meaning::rules::check_items;
 use smv_meaning::table::InstanceTable;
 use smv_names::symbols::symbols_of;
 use std::alloc::Global;
 
-/// The first item of an instance that breaks the rule.
-fn row_first<'t>(
+/// Reports the first fault of one rule in an instance.
+fn check_row<'t>(
     alloc: Global,
     context: &'t KindContext<'t>,
-    sections: &SectionsByName,
+    index: &ItemsByName,
     solution: &'t [Option<Sort>],
     row: usize,
     pass: Pass,
-) -> Result<Option<Span>, NoMemory>
+) -> Result<(), Fault>
     requires right { checking.IsTableOfProgram context.now.program.now context.now.table.now }
-    requires sections { IsSectionIndex context.now.program.now sections.now }
+    requires index { IsItemIndex context.now.program.now index.now }
     requires row { row < length context.now.table.now.rows }
     requires sorts { readings.AreSorts context.now.program.now context.now.table.now solution.now }
-    ensures { IfOk result (λ s. s
-        ≡ spec.first_here context.now.program.now pass
-        (checking.instance_at context.now.table.now row)) }
+    ensures { ReportsFirst (spec.instance_fault context.now.program.now pass
+        (checking.instance_at context.now.table.now row)) result }
 {
-    let own = sections.of_row(context.program, context.table, row);
-    let instance = InstanceContext {
+    let items = index.of_row(context.program, context.table, row);
+    let rule = InstanceRule {
         context,
         solution,
         row,
+        pass,
     };
-    sections_first(alloc, &instance, pass, own)
-}
-
-/// The first item that breaks the rule, in the order of the instances.
-fn order_first<'t>(
-    alloc: Global,
-    context: &'t KindContext<'t>,
-    sections: &SectionsByName,
-    solution: &'t [Option<Sort>],
-    order: &[usize],
-    pass: Pass,
-) -> Result<Option<Span>, NoMemory>
-    requires right { checking.IsTableOfProgram context.now.program.now context.now.table.now }
-    requires sections { IsSectionIndex context.now.program.now sections.now }
-    requires rows { checking.AreRows context.now.table.now order.now }
-    requires sorts { readings.AreSorts context.now.program.now context.now.table.now solution.now }
-    ensures { IfOk result (λ s. s
-        ≡ spec.first_in_order context.now.program.now context.now.table.now pass order.now) }
-{
-    for row in order {
-        match row_first(alloc, context, sections, solution, *row, pass)? {
-            Some(at) => return Ok(Some(at)),
-            None => {}
-        }
-    }
-    Ok(None)
+    check_items(alloc, &rule, items)
 }
 
 /// Reports the first fault of one rule.
 fn check_pass<'t>(
     alloc: Global,
     context: &'t KindContext<'t>,
-    sections: &SectionsByName,
+    index: &ItemsByName,
     solution: &'t [Option<Sort>],
     order: &[usize],
     pass: Pass,
 ) -> Result<(), Fault>
     requires right { checking.IsTableOfProgram context.now.program.now context.now.table.now }
-    requires sections { IsSectionIndex context.now.program.now sections.now }
+    requires index { IsItemIndex context.now.program.now index.now }
     requires rows { checking.AreRows context.now.table.now order.now }
     requires order { map (checking.instance_at context.now.table.now) order.now
         ≡ instances context.now.program.now }
     requires sorts { readings.AreSorts context.now.program.now context.now.table.now solution.now }
-    ensures { ReportsFirst (spec.first_of context.now.program.now pass) result }
+    ensures { ReportsFirst (spec.pass_fault context.now.program.now pass) result }
 {
-    match order_first(alloc, context, sections, solution, order, pass)? {
-        Some(at) => Err(pass_fault(pass, at)),
-        None => Ok(()),
+    for row in order {
+        check_row(alloc, context, index, solution, *row, pass)?;
     }
+    Ok(())
 }
 
 fn check_context<'t>(
@@ -107,19 +82,12 @@ fn check_context<'t>(
         ≡ instances context.now.program.now }
     ensures { ReportsFirst (spec.kinds_fault context.now.program.now) result }
 {
-    let sections = SectionsByName::of_program(alloc, context.program)?;
-    let solution = sorts_of(alloc, context)?;
-    let solution = solution.as_slice();
-    check_pass(alloc, &*context, &sections, solution, order, Pass::Kinds)?;
-    check_pass(
-        alloc,
-        &*context,
-        &sections,
-        solution,
-        order,
-        Pass::Magnitudes,
-    )?;
-    check_pass(alloc, &*context, &sections, solution, order, Pass::Mods)
+    let index = ItemsByName::of_program(alloc, context.program)?;
+    let sorts = sorts_of(alloc, context)?;
+    let sorts = sorts.as_slice();
+    check_pass(alloc, &*context, &index, sorts, order, Pass::Kinds)?;
+    check_pass(alloc, &*context, &index, sorts, order, Pass::Magnitudes)?;
+    check_pass(alloc, &*context, &index, sorts, order, Pass::Mods)
 }
 
 /// Reports the first fault of kinds; else the first number beyond the limit of magnitude; else the

@@ -9,7 +9,7 @@ use crate::facts::{
     Facts, binary_facts, case_facts, interval_facts, name_facts, negation_facts, next_facts,
     not_facts, number_facts, parts_facts, truth_facts, within_interval, within_parts,
 };
-use smv_ast::{Boxed, Branch, Choice, Expr, List, NoMemory};
+use smv_ast::{Branch, Choice, Expr, List, NoMemory};
 use std::alloc::Global;
 
 /// The facts of an expression. The only error is `NoMemory`.
@@ -21,28 +21,21 @@ pub fn facts_of<'t>(alloc: Global, reader: &Reader<'t>, e: &Expr) -> Result<Fact
         Expr::True | Expr::False => Ok(truth_facts()),
         Expr::Number(n) => Ok(number_facts(*n)),
         Expr::Name(path) => Ok(name_facts(reader.sort_of(path))),
-        Expr::Neg(a) => Ok(negation_facts(boxed_facts(alloc, reader, a)?)),
-        Expr::Not(a) => Ok(not_facts(boxed_facts(alloc, reader, a)?)),
+        Expr::Neg(a) => Ok(negation_facts(facts_of(alloc, reader, a.get())?)),
+        Expr::Not(a) => Ok(not_facts(facts_of(alloc, reader, a.get())?)),
         Expr::Binary(op, a, b) => {
-            let left = boxed_facts(alloc, reader, a)?;
-            let right = boxed_facts(alloc, reader, b)?;
+            let left = facts_of(alloc, reader, a.get())?;
+            let right = facts_of(alloc, reader, b.get())?;
             Ok(binary_facts(*op, left, right))
         }
         Expr::Within(a, choice) => {
-            let left = boxed_facts(alloc, reader, a)?;
+            let left = facts_of(alloc, reader, a.get())?;
             within_facts(alloc, reader, left, choice)
         }
         Expr::Cases(branches) => cases_facts(alloc, reader, branches.as_slice()),
-        Expr::Next(a) => Ok(next_facts(boxed_facts(alloc, reader, a)?)),
+        Expr::Next(a) => Ok(next_facts(facts_of(alloc, reader, a.get())?)),
         Expr::Pick(choice) => pick_facts(alloc, reader, choice),
     }
-}
-
-#[cycle(expressions)]
-fn boxed_facts<'t>(alloc: Global, reader: &Reader<'t>, e: &Boxed<Expr>) -> Result<Facts, NoMemory>
-    ensures { IfOk result (λ f. f ≡ spec.facts_of (readings.reads reader.now) e.now) }
-{
-    facts_of(alloc, reader, e.get())
 }
 
 #[cycle(expressions)]

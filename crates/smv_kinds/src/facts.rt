@@ -153,67 +153,37 @@ fn parts_sort(parts: &[Facts]) -> Option<Sort>
 fn all_fit(parts: &[Facts]) -> bool
     ensures { result ≡ spec.all_fit parts.now }
 {
-    for part in parts {
-        if !part.fits {
-            return false;
-        }
-    }
-    true
+    parts.iter().all(|part| part.fits)
 }
 
 fn all_suit(sort: Option<Sort>, parts: &[Facts]) -> bool
     ensures { result ≡ spec.all_suit sort parts.now }
 {
-    for part in parts {
-        if !suits(sort, *part) {
-            return false;
-        }
-    }
-    true
+    parts.iter().all(|part| suits(sort, *part))
 }
 
 fn all_agree(a: Facts, parts: &[Facts]) -> bool
     ensures { result ≡ spec.all_agree a parts.now }
 {
-    for part in parts {
-        if !agree(a, *part) {
-            return false;
-        }
-    }
-    true
+    parts.iter().all(|part| agree(a, *part))
 }
 
 fn all_kinds(parts: &[Facts]) -> bool
     ensures { result ≡ spec.all_kinds parts.now }
 {
-    for part in parts {
-        if !part.kinds {
-            return false;
-        }
-    }
-    true
+    parts.iter().all(|part| part.kinds)
 }
 
 fn all_small(parts: &[Facts]) -> bool
     ensures { result ≡ spec.all_small parts.now }
 {
-    for part in parts {
-        if !part.small {
-            return false;
-        }
-    }
-    true
+    parts.iter().all(|part| part.small)
 }
 
 fn all_mods(parts: &[Facts]) -> bool
     ensures { result ≡ spec.all_mods parts.now }
 {
-    for part in parts {
-        if !part.mods {
-            return false;
-        }
-    }
-    true
+    parts.iter().all(|part| part.mods)
 }
 
 /// A set of these values.

@@ -13,29 +13,12 @@ ghost use Rattle.smv_kinds.specs.Rules as spec;
 use crate::context::{KindContext, Reader};
 use crate::expressions::facts_of;
 use crate::facts::{Facts, suits};
-use crate::instance_context::InstanceContext;
+use crate::instance_rule::InstanceRule;
 use crate::sorts::{Sort, type_sort};
 use smv_ast::{Expr, NoMemory, Text};
 use smv_meaning::aliases::entry_of;
 use smv_meaning::entries::Entity;
 use std::alloc::Global;
-
-/// The facts of an expression in an instance.
-pub fn facts_here<'t>(
-    alloc: Global,
-    instance: &InstanceContext<'t>,
-    e: &Expr,
-) -> Result<Facts, NoMemory>
-    ensures { IfOk result (λ f. f ≡ spec.facts_here instance.now e.now) }
-{
-    let reader = Reader {
-        context: instance.context,
-        solution: instance.solution,
-        row: instance.row,
-    };
-    let facts = facts_of(alloc, &reader, e)?;
-    Ok(facts)
-}
 
 /// The instance that a path of an instance resolves to.
 fn walk<'t>(context: &KindContext<'t>, start: usize, names: &[Text]) -> Option<usize>
@@ -63,15 +46,6 @@ fn aliased<'t>(context: &KindContext<'t>, row: usize, e: &Expr) -> Option<usize>
     }
 }
 
-/// Whether an expression is a path to an instance, or to a formal that is an alias of one.
-pub fn is_instance<'t>(instance: &InstanceContext<'t>, e: &Expr) -> bool
-    ensures { result ≡ readings.is_instance (spec.program_of instance.now) (spec.instance_of instance.now)
-        e.now }
-{
-    let found = aliased(instance.context, instance.row, e);
-    found.is_some()
-}
-
 /// The sort of a variable, if the entity is one.
 fn target_sort(entity: Option<Entity>) -> Option<Sort>
     ensures { result ≡ readings.target_sort (option_map entity_view entity.entry) }
@@ -82,22 +56,43 @@ fn target_sort(entity: Option<Entity>) -> Option<Sort>
     }
 }
 
-/// The sort of a variable of an instance, if the name is one.
-fn target_here<'t>(instance: &InstanceContext<'t>, name: &str) -> Option<Sort>
-    ensures { result ≡ readings.target_in (spec.program_of instance.now) (spec.instance_of instance.now)
-        name.now }
-{
-    let rows = instance.context.table.rows.as_slice();
-    target_sort(rows[instance.row].entity_of(name))
-}
+impl<'t> InstanceRule<'t> {
+    /// The facts of an expression.
+    pub fn facts(&self, alloc: Global, e: &Expr) -> Result<Facts, NoMemory>
+        ensures { IfOk result (λ f. f ≡ spec.facts_here self.now e.now) }
+    {
+        let reader = Reader {
+            context: self.context,
+            solution: self.solution,
+            row: self.row,
+        };
+        let facts = facts_of(alloc, &reader, e)?;
+        Ok(facts)
+    }
 
-/// Whether an expression may be assigned to a name.
-pub fn is_assignable<'t>(instance: &InstanceContext<'t>, name: &str, facts: Facts) -> bool
-    ensures { result ≡ requirement.assignable
-        (readings.target_in (spec.program_of instance.now) (spec.instance_of instance.now) name.now) facts }
-{
-    match target_here(instance, name) {
-        Some(sort) => suits(Some(sort), facts),
-        None => true,
+    /// Whether an expression is a path to an instance, or to a formal that is an alias of one.
+    pub fn is_instance(&self, e: &Expr) -> bool
+        ensures { result ≡ spec.is_instance_here self.now e.now }
+    {
+        let found = aliased(self.context, self.row, e);
+        found.is_some()
+    }
+
+    /// The sort of a variable, if the name is one.
+    fn target(&self, name: &str) -> Option<Sort>
+        ensures { result ≡ spec.target_here self.now name.now }
+    {
+        let rows = self.context.table.rows.as_slice();
+        target_sort(rows[self.row].entity_of(name))
+    }
+
+    /// Whether an expression may be assigned to a name.
+    pub fn is_assignable(&self, name: &str, facts: Facts) -> bool
+        ensures { result ≡ requirement.assignable (spec.target_here self.now name.now) facts }
+    {
+        match self.target(name) {
+            Some(sort) => suits(Some(sort), facts),
+            None => true,
+        }
     }
 }

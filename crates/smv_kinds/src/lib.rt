@@ -6,7 +6,7 @@ mod context;
 mod expressions;
 mod facts;
 mod in_instance;
-mod instance_context;
+mod instance_rule;
 mod intervals;
 mod items;
 mod order;

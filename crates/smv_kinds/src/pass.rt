@@ -1,8 +1,7 @@
 //! The three rules, checked one after another on all items.
 
 ghost use Rattle.std.specs.Prelude.{◌≡◌};
-ghost use Rattle.smv_kinds.specs.ItemRules as requirement;
-ghost use Rattle.smv_kinds.specs.Rules as spec;
+ghost use Rattle.smv_kinds.specs.ItemRules as spec;
 
 use crate::facts::Facts;
 use crate::sorts::{is_small, type_sort};
@@ -21,7 +20,7 @@ pub enum Pass {
 
 /// Whether the facts of an expression keep the rule.
 pub fn kept(pass: Pass, facts: Facts) -> bool
-    ensures { result ≡ requirement.kept pass facts }
+    ensures { result ≡ spec.kept pass facts }
 {
     match pass {
         Pass::Kinds => facts.kinds,
@@ -32,7 +31,7 @@ pub fn kept(pass: Pass, facts: Facts) -> bool
 
 /// A requirement of the rules of kinds alone.
 pub fn in_kinds(pass: Pass, required: bool) -> bool
-    ensures { result ≡ requirement.in_kinds pass required }
+    ensures { result ≡ spec.in_kinds pass required }
 {
     match pass {
         Pass::Kinds => required,
@@ -42,7 +41,7 @@ pub fn in_kinds(pass: Pass, required: bool) -> bool
 
 /// Whether the numbers of a type keep the limit.
 pub fn type_keeps(pass: Pass, type_: &SmvType) -> bool
-    ensures { result ≡ requirement.type_keeps pass type_.now }
+    ensures { result ≡ spec.type_keeps pass type_.now }
 {
     match pass {
         Pass::Magnitudes => is_small(Some(type_sort(type_))),
@@ -52,7 +51,7 @@ pub fn type_keeps(pass: Pass, type_: &SmvType) -> bool
 
 /// Whether the facts of an actual keep the rule.
 pub fn actual_keeps(pass: Pass, is_instance: bool, facts: Facts) -> bool
-    ensures { result ≡ requirement.actual_keeps pass is_instance facts }
+    ensures { result ≡ spec.actual_keeps pass is_instance facts }
 {
     match pass {
         Pass::Kinds => is_instance || facts.kinds,
@@ -61,8 +60,8 @@ pub fn actual_keeps(pass: Pass, is_instance: bool, facts: Facts) -> bool
 }
 
 /// The fault of an item that breaks the rule.
-pub fn pass_fault(pass: Pass, at: Span) -> Fault
-    ensures { result ≡ spec.pass_fault pass at }
+pub fn fault_of(pass: Pass, at: Span) -> Fault
+    ensures { result ≡ spec.fault_of pass at }
 {
     match pass {
         Pass::Kinds => Fault::KindMismatch { at: Some(at) },

@@ -4,7 +4,7 @@ use Rattle.std.specs.Prelude.{slice_get}
 use Rattle.std.specs.List.{flat_map, list_any, Contains, IsDistinct}
 use Rattle.std.specs.Option.{option_to_list}
 use Rattle.std.proofs.lemmas.Map.Made.{AllPairs-from_IsDistinct}
-use Rattle.std.proofs.lemmas.List.{map-append, append-nil}
+use Rattle.std.proofs.lemmas.List.{append-nil}
 use Rattle.std.proofs.lemmas.Bool.{eqb-true, eq-eqb, and_parts, and_from, or_cases, or_left, or_right}
 use Rattle.std.proofs.lemmas.List.Folds.{list_any-append}
 use Rattle.std.proofs.Math.Bool.{or_assoc, or-false, or-true}
@@ -15,12 +15,8 @@ use Rattle.indexmap.specs.IndexSet.{insert_key}
 use Rattle.smv_nodes.specs.Own.{saturating_add}
 use Rattle.smv_nodes.specs.Mentions.{reads_of}
 use Rattle.smv_nodes.proofs.OwnLemmas.{saturating_add_assoc, saturating_add_more, saturating_add_less}
-use Rattle.smv_nodes.specs.declared.read_exprs.ReadExpr.{ReadExpr as Held}
 use Rattle.smv_nodes.specs.Count.{Lookup, ReadExpr, Shared, shared_expr, shared_in, content_reads, names_nodes, own_nodes, expr_nodes, exprs_nodes, ReachedIn, IsReached, exprs_of_shared, IsCount}
-use Rattle.smv_nodes.specs.Held.{same, read_expr_view, read_expr_views}
-
-pub exprs_push : (read_exprs : List Held) (p : Held) → read_expr_views (read_exprs ++ p ∷ []) ≡ read_expr_views read_exprs ++ read_expr_view p ∷ []
-exprs_push read_exprs p = map-append read_expr_view read_exprs (p ∷ [])
+use Rattle.smv_nodes.specs.Held.{same}
 
 -- ---- sums
 

@@ -1,18 +1,16 @@
 -- The number of nodes of a program's constraints and specs: those of the items of all instances,
 -- and those of each definition and formal that is read, once now and once after the step. The
 -- instances may be those of a program, or their numbers in a table.
-use Rattle.std.specs.Prelude.{◌≡◌, ◌≢◌, ℕ, zero, suc, Bool, true, false, List, [], ◌∷◌, ◌++◌, map, Option, Some, None, AllPairs}
+use Rattle.std.specs.Prelude.{◌≡◌, ◌≢◌, ℕ, zero, suc, Bool, true, false, List, [], ◌∷◌, ◌++◌, Option, Some, None, AllPairs}
 use Rattle.std.specs.List.{flat_map, Contains}
 use Rattle.std.specs.Option.{option_to_list}
 use Rattle.smv_ast.specs.declared.syntax.Expr.{Expr}
-use Rattle.smv_ast.specs.declared.program.Assignment.{Assignment}
-use Rattle.smv_ast.specs.declared.program.Section.{Section}
-use Rattle.smv_ast.specs.declared.program.Section.TheVariants as section
 use Rattle.smv_ast.specs.declared.program.Program.{Program}
 use Rattle.smv_meaning.specs.Value.{Name, and_then}
 use Rattle.smv_meaning.specs.Paths.{QualifiedName, Binding, IsDefine, IsFormal, resolve}
 use Rattle.smv_meaning.specs.Instances.{Instance, instances, binding_at}
-use Rattle.smv_meaning.specs.RunCheck.{sections_at}
+use Rattle.smv_meaning.specs.Items.{Item, Assigns, Constrains}
+use Rattle.smv_meaning.specs.ItemIndex.{items_at}
 use Rattle.smv_nodes.specs.Own.{saturating_add, nodes_of}
 use Rattle.smv_nodes.specs.Mentions.{Mention, reads_of}
 
@@ -47,32 +45,25 @@ pub record ReadExpr (P : Type 0) : Type 0 where
   pub assigned : Bool
   pub after_step : Bool
 
--- the expression of an assignment
-abbrev pub assigned_expr : {P : Type 0} → P → Assignment → ReadExpr P
-assigned_expr instance a = record
-    { instance = instance; right = a.right; assigned = true; after_step = false }
+-- an expression that is read now
+abbrev pub read_now : {P : Type 0} → P → Expr → Bool → ReadExpr P
+read_now instance e assigned = record
+    { instance = instance; right = e; assigned = assigned; after_step = false }
 
 -- an expression that is read as a value
 abbrev pub value_expr : {P : Type 0} → P → Expr → Bool → ReadExpr P
 value_expr instance e after_step = record
     { instance = instance; right = e; assigned = false; after_step = after_step }
 
--- the expressions of a section, one for each item
-abbrev pub section_exprs : {P : Type 0} → P → Section → List (ReadExpr P)
-section_exprs instance (section.Assigns assignments) = map (assigned_expr instance) assignments
-section_exprs instance (section.Init e at) = value_expr instance e false ∷ []
-section_exprs instance (section.Invar e at) = value_expr instance e false ∷ []
-section_exprs instance (section.Trans e at) = value_expr instance e false ∷ []
-section_exprs instance (section.InvarSpec e at) = value_expr instance e false ∷ []
-section_exprs instance s = []
+-- the expression that an item reads: a right side, or that of a constraint or spec
+abbrev pub item_exprs : {P : Type 0} → P → Item → List (ReadExpr P)
+item_exprs instance (Assigns left name right at) = read_now instance right true ∷ []
+item_exprs instance (Constrains r e at) = read_now instance e false ∷ []
+item_exprs instance item = []
 
--- the expressions of an instance with these sections
-abbrev pub instance_exprs : {P : Type 0} → (P → List Section) → P → List (ReadExpr P)
-instance_exprs sections instance = flat_map (section_exprs instance) (sections instance)
-
--- the expressions of these instances
-abbrev pub item_exprs : {P : Type 0} → (P → List Section) → List P → List (ReadExpr P)
-item_exprs sections row_instances = flat_map (instance_exprs sections) row_instances
+-- the expressions that the items of these instances read
+abbrev pub instance_exprs : {P : Type 0} → (P → List Item) → List P → List (ReadExpr P)
+instance_exprs items = flat_map (λ instance. flat_map (item_exprs instance) (items instance))
 
 -- the nodes of an expression by itself; a right side has the node of its variable first
 abbrev pub own_nodes : {P : Type 0} → ReadExpr P → ℕ
@@ -162,7 +153,7 @@ module _ {P S : Type 0} (lookup : Lookup P S) where
 
 -- the expressions of the items of a program
 abbrev pub program_exprs : Program → List (ReadExpr Instance)
-program_exprs program = item_exprs (sections_at program) (instances program)
+program_exprs program = instance_exprs (items_at program) (instances program)
 
 -- the number of nodes of the constraints and specs of a program
 abbrev pub HasNodes : Program → ℕ → Type 0

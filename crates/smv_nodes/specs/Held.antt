@@ -1,16 +1,15 @@
 -- The count of nodes, over the rows and slots of the instance table.
 use Rattle.std.specs.Prelude.{ℕ, ◌&&◌, Bool, nat_eq, List, map, slice_get}
 use mathlib.Core.Bool.{beq}
-use Rattle.smv_ast.specs.declared.program.Section.{Section}
 use Rattle.smv_ast.specs.declared.program.Program.{Program}
 use Rattle.smv_meaning.specs.declared.table.InstanceTable.{InstanceTable}
 use Rattle.smv_meaning.specs.Value.{and_then}
 use Rattle.smv_meaning.specs.InstanceTable.{binding_view}
 use Rattle.smv_meaning.specs.Slots.{resolve_slot}
 use Rattle.smv_meaning.specs.Checking.{instance_at}
-use Rattle.smv_meaning.specs.RunCheck.{sections_at}
+use Rattle.smv_meaning.specs.ItemIndex.{items_at}
 use Rattle.smv_nodes.specs.declared.read_exprs.ReadExpr.{ReadExpr as HeldReadExpr}
-use Rattle.smv_nodes.specs.Count.{Lookup, content, ReadExpr, Shared, item_exprs}
+use Rattle.smv_nodes.specs.Count.{Lookup, content, ReadExpr, Shared, instance_exprs}
 
 -- the resolution of names by the slots of a table
 abbrev pub of_table : InstanceTable → Lookup ℕ ℕ
@@ -20,13 +19,9 @@ of_table table = record {
       (λ slot. content slot.row (binding_view slot.binding));
 }
 
--- the sections of the instance of this number
-abbrev pub table_sections : Program → InstanceTable → ℕ → List Section
-table_sections program table row = sections_at program (instance_at table row)
-
--- the expressions of the items of these instances
+-- the expressions that the items of the instances of these numbers read
 abbrev pub table_exprs : Program → InstanceTable → List ℕ → List (ReadExpr ℕ)
-table_exprs program table order = item_exprs (table_sections program table) order
+table_exprs program table = instance_exprs (λ row. items_at program (instance_at table row))
 
 -- whether two shared nodes are equal
 abbrev pub same : Shared ℕ → Shared ℕ → Bool

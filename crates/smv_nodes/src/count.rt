@@ -15,7 +15,7 @@ ghost use Rattle.smv_nodes.specs.Held as held;
 
 use crate::mentions::{Mention, push_reads};
 use crate::own::nodes_of;
-use crate::read_exprs::{ReadExpr, item_exprs};
+use crate::read_exprs::{ReadExpr, table_exprs};
 use indexmap::IndexSet;
 use smv_ast::{NoMemory, Program};
 use smv_meaning::aliases::resolve;
@@ -279,6 +279,6 @@ pub fn count_nodes(
     ensures { IfOk result (λ n. spec.IsCount (held.of_table table.now)
         (held.table_exprs program.now table.now order.now) n) }
 {
-    let read_exprs = item_exprs(alloc, program, table, order)?;
+    let read_exprs = table_exprs(alloc, program, table, order)?;
     count_read_exprs(alloc, table, aliases, read_exprs.as_slice())
 }

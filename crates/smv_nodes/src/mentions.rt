@@ -13,7 +13,6 @@ pub struct Mention<'a> {
     pub after_step: bool,
 }
 
-#[tactic(auto, using(crate::proofs::MentionLemmas::mentions_push))]
 fn push_path<'a>(
     mentions: &mut Vec<Mention<'a>>,
     path: &'a Path,

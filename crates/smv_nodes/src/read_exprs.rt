@@ -1,13 +1,15 @@
 //! The expressions that the items of instances read.
 
-ghost use Rattle.std.specs.Prelude.{◌≡◌, ◌++◌, ◌∷◌, [], OnOk, IfOk, false};
+ghost use Rattle.std.specs.Prelude.{◌≡◌, ◌++◌, ◌∷◌, [], OnOk, IfOk};
 ghost use Rattle.std.specs.List.{flat_map};
 ghost use Rattle.smv_meaning.specs.Checking as checking;
+ghost use Rattle.smv_meaning.specs.Items.{item_view, items_view};
 ghost use Rattle.smv_nodes.specs.Count as spec;
 ghost use Rattle.smv_nodes.specs.Held as held;
 
-use smv_ast::{Expr, NoMemory, Program, Section};
-use smv_meaning::sections::SectionsByName;
+use smv_ast::{Expr, NoMemory, Program};
+use smv_meaning::item_index::ItemsByName;
+use smv_meaning::items::Item;
 use smv_meaning::table::InstanceTable;
 use std::alloc::{AllocError, Global};
 
@@ -22,70 +24,59 @@ pub struct ReadExpr<'a> {
     pub after_step: bool,
 }
 
-#[tactic(auto, using(crate::proofs::CountLemmas::exprs_push))]
-fn push_value<'a>(
+/// Adds an expression that is read now.
+fn push_expr<'a>(
     read_exprs: &mut Vec<ReadExpr<'a>>,
     row: usize,
     right: &'a Expr,
+    assigned: bool,
 ) -> Result<(), AllocError>
     ensures { OnOk result (held.read_expr_views read_exprs.new.items
-        ≡ held.read_expr_views read_exprs.old.items ++ spec.value_expr row right.now false ∷ []) }
+        ≡ held.read_expr_views read_exprs.old.items ++ spec.read_now row right.now assigned ∷ []) }
 {
     read_exprs.push(ReadExpr {
         row,
         right,
-        assigned: false,
+        assigned,
         after_step: false,
     })?;
     Ok(())
 }
 
-#[tactic(auto, using(crate::proofs::CountLemmas::exprs_push))]
-fn push_section<'a>(
+/// Adds the expression that an item reads.
+fn push_item<'a>(
     read_exprs: &mut Vec<ReadExpr<'a>>,
     row: usize,
-    section: &'a Section,
+    item: Item<'a>,
 ) -> Result<(), AllocError>
     ensures { OnOk result (held.read_expr_views read_exprs.new.items
-        ≡ held.read_expr_views read_exprs.old.items ++ spec.section_exprs row section.now) }
+        ≡ held.read_expr_views read_exprs.old.items ++ spec.item_exprs row (item_view item.entry)) }
 {
-    match section {
-        Section::Assigns(assignments) => {
-            for assignment in assignments.as_slice() {
-                read_exprs.push(ReadExpr {
-                    row,
-                    right: &assignment.right,
-                    assigned: true,
-                    after_step: false,
-                })?;
-            }
-            Ok(())
-        }
-        Section::Init(e, _) => push_value(read_exprs, row, e),
-        Section::Invar(e, _) => push_value(read_exprs, row, e),
-        Section::Trans(e, _) => push_value(read_exprs, row, e),
-        Section::InvarSpec(e, _) => push_value(read_exprs, row, e),
+    match item {
+        Item::Assignment(assignment) => push_expr(read_exprs, row, &assignment.right, true),
+        Item::Constraint(_, e, _) => push_expr(read_exprs, row, e, false),
         _ => Ok(()),
     }
 }
 
-fn push_sections<'a>(
+/// Adds the expressions that these items read.
+fn push_items<'a>(
     read_exprs: &mut Vec<ReadExpr<'a>>,
     row: usize,
-    sections: &'a [Section],
+    items: &[Item<'a>],
 ) -> Result<(), AllocError>
     ensures { OnOk result (held.read_expr_views read_exprs.new.items
         ≡ held.read_expr_views read_exprs.old.items
-        ++ flat_map (spec.section_exprs row) sections.now) }
+        ++ flat_map (spec.item_exprs row) (items_view items.now)) }
 {
-    for section in sections {
-        push_section(read_exprs, row, section)?;
+    for item in items {
+        push_item(read_exprs, row, *item)?;
     }
     Ok(())
 }
 
-/// The expressions of the items of these instances.
-pub fn item_exprs<'p>(
+/// The expressions that the items of these instances read.
+pub fn table_exprs<'p>(
     alloc: Global,
     program: &'p Program,
     table: &InstanceTable,
@@ -96,11 +87,11 @@ pub fn item_exprs<'p>(
     ensures { IfOk result (λ read_exprs. held.read_expr_views read_exprs.items
         ≡ held.table_exprs program.now table.now order.now) }
 {
-    let sections = SectionsByName::of_program(alloc, program)?;
+    let index = ItemsByName::of_program(alloc, program)?;
     let mut read_exprs = Vec::new(alloc);
     for row in order {
-        let own = sections.of_row(program, table, *row);
-        push_sections(&mut read_exprs, *row, own)?;
+        let items = index.of_row(program, table, *row);
+        push_items(&mut read_exprs, *row, items)?;
     }
     Ok(read_exprs)
 }

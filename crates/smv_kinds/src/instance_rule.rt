@@ -1,4 +1,4 @@
-//! An instance of a program, with the sorts of all slots.
+//! The rule of a pass in an instance of a program.
 
 ghost use Rattle.std.specs.Prelude.{◌≡◌, ◌<◌, length};
 ghost use Rattle.std.specs.Option.{is_some};
@@ -14,15 +14,17 @@ ghost use Rattle.smv_meaning.specs.InstanceTable.{entries_at};
 ghost use Rattle.smv_kinds.specs.SortsOfNames as readings;
 
 use crate::context::KindContext;
+use crate::pass::Pass;
 use crate::sorts::Sort;
 
-/// An instance, by its number.
+/// The rule of a pass in an instance, given by its number.
 #[derive(Drop)]
-pub struct InstanceContext<'t> {
+pub struct InstanceRule<'t> {
     pub context: &'t KindContext<'t>,
     /// The sort of each slot.
     pub solution: &'t [Option<Sort>],
     pub row: usize,
+    pub pass: Pass,
     ghost within: { row < length context.now.table.now.rows },
     ghost targets: { (name : Name)
         → readings.target_sort (entity_among (entries_at context.now.table.now.rows row) name)

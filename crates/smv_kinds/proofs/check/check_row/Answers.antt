@@ -1,8 +1,8 @@
 use Rattle.smv_kinds.proofs.InstanceLemmas.{row_targets, row_sorting_is, instance_of_row}
-use Rattle.smv_kinds.proofs.check.row_first.Goals as goal
+use Rattle.smv_kinds.proofs.check.check_row.Goals as goal
 
-pub invariant_of-instance : goal.invariant_of-instance
-invariant_of-instance c = record {
+pub invariant_of-rule : goal.invariant_of-rule
+invariant_of-rule c = record {
   within = c.requires.row;
   targets = row_targets c.args.context.now.program.now c.args.context.now.table.now c.requires.right c.args.row c.requires.row;
   sorting = row_sorting_is c.args.context.now.program.now c.args.context.now.table.now c.requires.right c.args.solution.now c.args.row c.requires.sorts c.requires.row;
