@@ -1,16 +1,21 @@
 -- Assumptions, and what becomes of a search under them.
-use Rattle.std.specs.Prelude.{◌≡◌, ℕ, ◌==◌, Bool, true, None, Some, List, take, All, Contains, ◌⊎◌}
+use Rattle.std.specs.Prelude.{◌≡◌, ℕ, ◌==◌, ◌<◌, length, Bool, true, None, Some, List, take, All, Contains, ◌⊎◌}
 use Rattle.std.specs.List.{list_any}
 use Rattle.fsmv_base.specs.declared.citation.Id.{Id}
 use Rattle.sat_lits.specs.Steps.{IsFalsified, named}
 use Rattle.proof_log.specs.Logged.{Logged, live_lines}
 use Rattle.sat_arena.specs.declared.trail.Assigned.{Assigned}
-use Rattle.sat_arena.specs.Trails.{true_in}
+use Rattle.sat_arena.specs.Trails.{true_in, marked}
 use Rattle.sat_arena.specs.Justified.{IsEntryAt}
 
 -- the literals that are assumed
 abbrev pub assumed : List ℕ → (ℕ → Bool)
 assumed assumptions = λ l. list_any (λ a. a == l) assumptions
+
+-- these literals have their flags, by their codes, and no others have one
+pub record HasFlagsOf (flags : List Bool) (lits : List ℕ) : Type 0 where
+  pub same : (l : ℕ) → marked flags l ≡ assumed lits l
+  pub within : All (λ l. l < length flags) lits
 
 -- the literals are all true
 abbrev pub AllTrue : List ℕ → List Assigned → Type 0

@@ -3,6 +3,7 @@ ghost use Rattle.std.specs.Prelude.{◌≡◌, ℕ, ◌≤◌, ◌<◌, ◌^◌,
 ghost use Rattle.std.specs.Option.{option_map};
 ghost use Rattle.sat_lits.specs.Literals.{literal};
 ghost use Rattle.sat_arena.specs.Trails.{true_in, marked, IsGrown};
+ghost use Rattle.sat_search.specs.Assumed.{assumed};
 ghost use Rattle.sat_search.specs.Clashes.{HasClash};
 ghost use Rattle.sat_search.specs.Solvers.{IsSolver};
 ghost use Rattle.sat_search.specs.Additions.{HasVariables};
@@ -10,7 +11,6 @@ ghost use Rattle.sat_search.specs.Sessions.{AddsLines};
 ghost use Rattle.sat_search.specs.Founds.{HasValues, IsFound};
 
 use crate::answer::Answer;
-use crate::cores::literal_set_of;
 use crate::solver::Solver;
 use fsmv_base::NoMemory;
 use sat_analyze::Analyzer;
@@ -32,6 +32,7 @@ impl Solver {
         alloc: Global,
         analyzer: &mut Analyzer,
         assumptions: &[Lit],
+        literal_set: &[bool],
         most: u32,
         vars: u32,
     ) -> Result<Found, NoMemory>
@@ -41,14 +42,14 @@ impl Solver {
         requires small { vars < 2 ^ 30 }
         requires grown { All (IsGrown vars) assumptions.now }
         requires no_clash { HasClash assumptions.now → ⊥ }
+        requires literal_set { (l : ℕ) → marked literal_set.now l ≡ assumed assumptions.now l }
         ensures vars { self.new.propagator.vars ≡ self.old.propagator.vars }
         ensures solver { OnOk result (IsSolver self.new) }
         ensures variables { HasVariables self.new.log }
         ensures ok { IfOk result (IsFound assumptions.now self.old.log self.new.log most) }
         ensures err { OnErr result (AddsLines assumptions.now self.old.log self.new.log most None) }
     {
-        let literal_set = literal_set_of(alloc, assumptions, vars)?;
-        let answer = self.run(analyzer, assumptions, &literal_set, most)?;
+        let answer = self.run(analyzer, assumptions, literal_set, most)?;
         with_values(alloc, self.propagator.trail(), vars, answer)
     }
 }

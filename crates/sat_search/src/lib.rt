@@ -3,9 +3,9 @@
 
 mod analysis;
 mod answer;
+mod assumption_set;
 mod clashes;
 mod conclusion;
-mod cores;
 mod decide_loop;
 mod found;
 mod growth;

@@ -7,6 +7,7 @@ ghost use Rattle.sat_search.specs.Clashes.{HasClash};
 ghost use Rattle.sat_search.specs.Additions.{HasVariables};
 
 use crate::answer::Answer;
+use crate::assumption_set::AssumptionSet;
 use crate::solver::Solver;
 use fsmv_base::NoMemory;
 use proof_log::Log;
@@ -27,6 +28,7 @@ pub struct Session {
     alloc: Global,
     solver: Solver,
     analyzer: Analyzer,
+    assumed: AssumptionSet,
     axioms: u32,
     vars: u32,
     asked: u64,
@@ -70,6 +72,7 @@ impl Session {
             alloc,
             solver: Solver::new(alloc),
             analyzer: Analyzer::new(alloc),
+            assumed: AssumptionSet::new(alloc),
             axioms: 0,
             vars: 0,
             asked: 0,
@@ -154,11 +157,20 @@ impl Session {
         if self.ended {
             return Err(NoMemory);
         }
+        if let Err(error) = self.assumed.fill(assumptions, self.vars) {
+            self.ended = true;
+            return Err(error);
+        }
         let alloc = self.alloc;
-        match self
-            .solver
-            .find(alloc, &mut self.analyzer, assumptions, most, self.vars)
-        {
+        let literal_set = self.assumed.flags();
+        match self.solver.find(
+            alloc,
+            &mut self.analyzer,
+            assumptions,
+            literal_set,
+            most,
+            self.vars,
+        ) {
             Ok(found) => {
                 self.model = found.values;
                 Ok(found.answer)

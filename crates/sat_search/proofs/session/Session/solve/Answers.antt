@@ -9,3 +9,8 @@ pub returns-then-self-clause-lines : goal.returns-then-self-clause-lines
 returns-then-self-clause-lines c =
     let log = c.self.inside.solver.log in
     subst (λ (old : Logged). AddsLines c.args.assumptions.now old log c.args.most None) (ap (λ s. s.log) c.self.view_is) (AddsLines-continues c.args.assumptions.now log log c.args.most None (ContinuesTo-refl log c.args.most))
+
+pub returns-in-Err-clause-lines : goal.returns-in-Err-clause-lines
+returns-in-Err-clause-lines c =
+    let log = c.self.inside.solver.log in
+    subst (λ (old : Logged). AddsLines c.args.assumptions.now old log c.args.most None) (ap (λ s. s.log) c.self.view_is) (AddsLines-continues c.args.assumptions.now log log c.args.most None (ContinuesTo-refl log c.args.most))

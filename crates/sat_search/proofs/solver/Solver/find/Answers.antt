@@ -14,13 +14,9 @@ use Rattle.sat_search.proofs.RunLemmas.{ContinuesTo-refl}
 use Rattle.sat_search.proofs.FoundLemmas.{AddsLines-continues, AddsLines-run, set_clause, Answers-run, HasVariables-run}
 use Rattle.sat_search.proofs.solver.Solver.find.Goals as goal
 
-pub returns-in_err-literal_set-clause-err : goal.returns-in_err-literal_set-clause-err
-returns-in_err-literal_set-clause-err c =
-    MatchResult-from_err _ _ _ c.from_residual.ensures.0 (λ _. AddsLines-continues c.args.assumptions.now c.args.self.now.log c.args.self.now.log c.args.most None (ContinuesTo-refl c.args.self.now.log c.args.most))
-
 pub returns-in_err-answer-clause-err : goal.returns-in_err-answer-clause-err
 returns-in_err-answer-clause-err c =
-    MatchResult-from_err _ _ _ c.from_residual-in_err-answer.ensures.0 (λ _. AddsLines-continues c.args.assumptions.now c.args.self.now.log c.run.new.self.log c.args.most None c.in_err-answer.ensures.err)
+    MatchResult-from_err _ _ _ c.from_residual.ensures.0 (λ _. AddsLines-continues c.args.assumptions.now c.args.self.now.log c.run.new.self.log c.args.most None c.in_err-answer.ensures.err)
 
 pub returns-clause-variables : goal.returns-clause-variables
 returns-clause-variables c =
@@ -44,20 +40,20 @@ returns-clause-ok c =
     let new = c.run.new.self in
     let answer = c.in_ok-answer.answer in
     let vars : c.args.vars ≡ new.propagator.vars = c.requires.vars ∙ sym c.run.ensures.vars in
-    let same : (l : ℕ) → marked c.deref.result.now l ≡ assumed lits l = λ l. ap (λ literal_set. marked literal_set l) c.deref.ensures.value ∙ c.in_ok-literal_set.ensures l in
+    let same : (l : ℕ) → marked c.args.literal_set.now l ≡ assumed lits l = c.requires.literal_set in
     both c.with_values.result (λ (found : Found). found.answer ≡ answer) (λ (found : Found). HasValues new.propagator.entries c.args.vars answer (option_map (λ values. values.items) found.values)) (IsFound lits old new.log c.args.most)
     (λ found is has. found_ok lits old new.log c.args.most answer found is
-    (Answers-run c.deref.result.now lits same old new c.args.most answer (option_map (λ values. values.items) found.values) c.in_ok-answer.ensures.solver c.in_ok-answer.ensures.ok
+    (Answers-run c.args.literal_set.now lits same old new c.args.most answer (option_map (λ values. values.items) found.values) c.in_ok-answer.ensures.solver c.in_ok-answer.ensures.ok
     (subst (λ (n : ℕ). HasValues new.propagator.entries n answer (option_map (λ values. values.items) found.values)) vars has))
-    (AddsLines-run (marked c.deref.result.now) lits (set_clause c.deref.result.now lits same) old new c.args.most answer c.in_ok-answer.ensures.ok))
+    (AddsLines-run (marked c.args.literal_set.now) lits (set_clause c.args.literal_set.now lits same) old new c.args.most answer c.in_ok-answer.ensures.ok))
     c.with_values.ensures.answer
     (subst (λ (t : TrailState). IfOk c.with_values.result (λ (found : Found). HasValues t.entries c.args.vars answer (option_map (λ values. values.items) found.values))) c.trail.ensures c.with_values.ensures.values)
 
 pub returns-clause-err : goal.returns-clause-err
 returns-clause-err c =
     let lits = c.args.assumptions.now in
-    let same : (l : ℕ) → marked c.deref.result.now l ≡ assumed lits l = λ l. ap (λ literal_set. marked literal_set l) c.deref.ensures.value ∙ c.in_ok-literal_set.ensures l in
+    let same : (l : ℕ) → marked c.args.literal_set.now l ≡ assumed lits l = c.requires.literal_set in
     on_err_weaker c.with_values.result
     (λ is. subst (λ (a : Answer). AddsLines lits c.args.self.now.log c.run.new.self.log c.args.most (named_by a)) is
-    (AddsLines-run (marked c.deref.result.now) lits (set_clause c.deref.result.now lits same) c.args.self.now.log c.run.new.self c.args.most c.in_ok-answer.answer c.in_ok-answer.ensures.ok))
+    (AddsLines-run (marked c.args.literal_set.now) lits (set_clause c.args.literal_set.now lits same) c.args.self.now.log c.run.new.self c.args.most c.in_ok-answer.answer c.in_ok-answer.ensures.ok))
     c.with_values.ensures.cause
