@@ -1,7 +1,6 @@
 -- A propositional formula without a fault of its names is a constraint on the declared features.
 use Rattle.std.proofs.Common.{◌≡◌, Bool, true, false, ◌&&◌, List, [], ◌∷◌, Option, Some, None, is_some, cond, refl, sym, ◌∙◌, ap, subst}
 use Rattle.smv_ast.specs.declared.syntax.Span.{Span}
-use Rattle.smv_ast.specs.declared.syntax.Op.{Op}
 use Rattle.smv_ast.specs.declared.syntax.Expr.{Expr, Expr-F, roll-Expr, fold-roll-Expr, map-Expr, ind-Expr}
 use Rattle.smv_ast.specs.declared.syntax.Choice.{Choice, fold-Choice}
 use Rattle.smv_ast.specs.declared.syntax.Branch.{Branch, fold-Branch}

@@ -15,3 +15,4 @@ pub mod StrictReading
 pub mod StrictTexts
 pub mod ModelAnswers
 pub mod Reports
+mod TextExamples

@@ -1,5 +1,5 @@
 -- How a fault is handed on.
-use Rattle.std.proofs.Common.{◌≡◌, Option, Some, None, Err, sym, ◌∙◌, ap, subst}
+use Rattle.std.proofs.Common.{◌≡◌, Option, Err, sym, ◌∙◌, ap, subst}
 use Rattle.std.specs.Prelude.{Result, IsErrAnd}
 use Rattle.std.proofs.lemmas.Result.{err_from_is_err_and}
 use Rattle.smv_ast.specs.declared.fault.Fault.{Fault}

@@ -1,26 +1,14 @@
 -- The reader of texts that stops at the first constraint that is not propositional, beside the reader of all texts.
-use Rattle.std.proofs.Common.{◌≡◌, ℕ, zero, suc, ◌<◌, ◌≤◌, Bool, true, false, ◌&&◌, cond, List, [], ◌∷◌, ◌++◌, length, length-append, append_assoc, append-nil, Option, Some, None, refl, sym, ◌∙◌, ap, subst, arith}
-use Rattle.std.specs.List.{list_all}
+use Rattle.std.proofs.Common.{◌≡◌, ◌<◌, Bool, true, false, cond, [], ◌∷◌, ◌++◌, length, length-append, refl, sym, ◌∙◌, ap, arith}
 use Rattle.std.proofs.lemmas.List.{append_cancel_right}
 use Rattle.smv_ast.specs.declared.syntax.Span.{Span}
 use Rattle.smv_ast.specs.declared.syntax.Expr.{Expr}
-use Rattle.smv_expr.specs.declared.kind.Kind.{Kind}
 use Rattle.smv_expr.specs.declared.kind.Kind.TheVariants as k
-use Rattle.smv_expr.specs.Lexicon.{Token, same_kind}
-use Rattle.smv_expr.specs.Language.{Tokens, next_of, begins, has, many, span_of, of_kind}
-use Rattle.smv_expr.specs.Reading.{Outcome, Reader, and_then, remaining_of, read_word, read_both, read_mapped, read_more, read_fold, pushed}
+use Rattle.smv_expr.specs.Language.{Tokens}
+use Rattle.smv_expr.specs.Reading.{remaining_of, read_word, read_mapped}
 use Rattle.smv_expr.specs.Reading.Outcome.{Read, Stop}
-use Rattle.smv_expr.specs.Reading.Cause.{UnexpectedToken, Wide, Deep}
-use Rattle.smv_expr.specs.Limits.{Limit, nesting_bound}
-use Rattle.smv_expr.specs.Limits.Limit.{AnyHeight, Below}
-use Rattle.smv_expr.specs.ExprGrammar.{expr}
-use Rattle.smv_expr.specs.ExprReaders.{read_expr, first_expr}
-use Rattle.smv_expr.specs.ExprAnswer.{is_low, limited_expr}
-use Rattle.smv_expr.specs.Answer.{unlimited, GoesOn, Verdict}
-use Rattle.smv_expr.proofs.Rules.{Rule, Good, Took}
-use Rattle.smv_expr.proofs.Words.{always}
+use Rattle.smv_expr.specs.Reading.Cause.{Deep}
 use Rattle.smv_expr.proofs.Rounds.{Consumes}
-use Rattle.smv_expr.proofs.Limited.{Obeys, Sim}
 use Rattle.smv_expr.proofs.Local.{Local, put, nothing_local, mapped_local, both_local, first_consumes, both_consumes, mapped_consumes, either_consumes}
 use Rattle.smv_expr.proofs.ExprLocal.{word_local, word_consumes}
 use Rattle.smv_expr.proofs.ExprAnswering.{limited_local}

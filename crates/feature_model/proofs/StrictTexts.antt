@@ -1,5 +1,5 @@
 -- What the reader of texts with propositional constraints reads, or where it stops.
-use Rattle.std.proofs.Common.{◌≡◌, ℕ, zero, suc, ◌<◌, ◌≤◌, Bool, true, false, ◌&&◌, cond, List, [], ◌∷◌, ◌++◌, length, append_assoc, append-nil, Option, Some, None, refl, sym, ◌∙◌, ap, subst, arith}
+use Rattle.std.proofs.Common.{◌≡◌, ℕ, zero, suc, ◌≤◌, Bool, true, false, ◌&&◌, cond, List, [], ◌∷◌, ◌++◌, length, append_assoc, append-nil, Option, Some, None, refl, sym, ◌∙◌, ap, subst, arith}
 use Rattle.std.specs.List.{list_all}
 use Rattle.std.proofs.lemmas.List.{append_cancel_right}
 use Rattle.smv_ast.specs.declared.syntax.Span.{Span}
@@ -7,19 +7,19 @@ use Rattle.smv_ast.specs.declared.syntax.Expr.{Expr}
 use Rattle.smv_ast.specs.declared.model.GroupKind.{GroupKind}
 use Rattle.smv_expr.specs.declared.kind.Kind.{Kind}
 use Rattle.smv_expr.specs.declared.kind.Kind.TheVariants as k
-use Rattle.smv_expr.specs.Lexicon.{Token, same_kind}
-use Rattle.smv_expr.specs.Language.{Tokens, next_of, begins, word, many}
-use Rattle.smv_expr.specs.Reading.{Outcome, Reader, and_then, remaining_of, read_word, read_one_of, read_both, read_mapped, read_more, read_rounds, read_fold, pushed}
+use Rattle.smv_expr.specs.Lexicon.{Token}
+use Rattle.smv_expr.specs.Language.{Tokens, next_of, begins}
+use Rattle.smv_expr.specs.Reading.{Outcome, Reader, and_then, read_word, read_one_of, read_both, read_mapped, read_more, read_rounds, read_fold, pushed}
 use Rattle.smv_expr.specs.Reading.Outcome.{Read, Stop}
 use Rattle.smv_expr.specs.Reading.Cause.{UnexpectedToken, Wide, Deep}
 use Rattle.smv_expr.specs.Limits.{nesting_bound}
 use Rattle.smv_expr.specs.ExprGrammar.{expr}
 use Rattle.smv_expr.specs.ExprReaders.{first_expr}
 use Rattle.smv_expr.specs.ExprAnswer.{is_low, limited_expr}
-use Rattle.smv_expr.specs.Answer.{unlimited, IsText, GoesOn, Verdict}
+use Rattle.smv_expr.specs.Answer.{unlimited, GoesOn, Verdict}
 use Rattle.smv_expr.proofs.Rules.{Rule, Good, Took}
 use Rattle.smv_expr.proofs.Words.{always, tok}
-use Rattle.smv_expr.proofs.Rounds.{Consumes, one_round, rounds_end}
+use Rattle.smv_expr.proofs.Rounds.{one_round, rounds_end}
 use Rattle.smv_expr.proofs.RowRounds.{next_round, more_ended, more_end}
 use Rattle.smv_expr.proofs.Limited.{Obeys, Sim, LeavesSuffix}
 use Rattle.smv_expr.proofs.ExprRules.{expr_rules, starts_expr}
@@ -33,7 +33,7 @@ use Rattle.feature_model.specs.TextReaders.{with_line, is_refused, reading_of}
 use Rattle.feature_model.specs.TextAnswer.{IsModelText, IsOtherConstraint, EndsLines, EndsText, TextVerdict, ReadVerdict}
 use Rattle.feature_model.specs.declared.text.FeatureName.{FeatureName}
 use Rattle.feature_model.specs.declared.text.TextLine.{TextLine}
-use Rattle.feature_model.specs.declared.text.TextLine.TheVariants.{Group, Constraint}
+use Rattle.feature_model.specs.declared.text.TextLine.TheVariants.{Constraint}
 use Rattle.feature_model.specs.declared.text.ModelText.{ModelText}
 use Rattle.feature_model.specs.declared.text.LineReading.{LineReading}
 use Rattle.feature_model.specs.declared.text.LineReading.TheVariants.{Line, Refused}

@@ -1,12 +1,12 @@
 -- The grammar of the texts of feature models, and the readers of its parts.
-use Rattle.std.proofs.Common.{◌≡◌, ℕ, Bool, true, false, ◌&&◌, List, [], ◌∷◌, refl, sym, ap}
+use Rattle.std.proofs.Common.{◌≡◌, Bool, true, false, ◌&&◌, List, [], ◌∷◌, refl, sym, ap}
 use Rattle.std.specs.List.{list_all}
 use Rattle.smv_ast.specs.declared.model.GroupKind.TheVariants as group
 use Rattle.smv_expr.specs.declared.kind.Kind.{Kind}
 use Rattle.smv_expr.specs.declared.kind.Kind.TheVariants as k
 use Rattle.smv_expr.specs.Lexicon.{same_kind}
 use Rattle.smv_expr.specs.Language.{Tokens, of_kind, find_kind, span_of, name_of}
-use Rattle.smv_expr.specs.Reading.{Reader, read_word, read_many, remaining_of}
+use Rattle.smv_expr.specs.Reading.{read_word, remaining_of}
 use Rattle.smv_expr.specs.Reading.Outcome.{Read}
 use Rattle.smv_expr.specs.Limits.{Limit, nesting_bound}
 use Rattle.smv_expr.specs.Limits.Limit.{AnyHeight, Below}
@@ -14,8 +14,8 @@ use Rattle.smv_expr.specs.ExprGrammar.{expr}
 use Rattle.smv_expr.specs.ExprAnswer.{is_low}
 use Rattle.smv_expr.specs.Answer.{Verdict, IsText, AreWithin}
 use Rattle.smv_expr.proofs.Rules.{Rule, Starts}
-use Rattle.smv_expr.proofs.Rounds.{Consumes, consumes}
-use Rattle.smv_expr.proofs.Words.{always, tok_name, tok_one_of, seq, after, before, map, alt, collect, starts_word, starts_name, starts_table, starts_dep, starts_mapped, starts_either, starts_more, leaves_all, leaves_start}
+use Rattle.smv_expr.proofs.Rounds.{Consumes}
+use Rattle.smv_expr.proofs.Words.{always, tok_name, tok_one_of, seq, after, before, map, alt, collect, starts_word, starts_table, starts_dep, starts_mapped, starts_either, starts_more, leaves_all, leaves_start}
 use Rattle.smv_expr.proofs.ExprRules.{expr_rules}
 use Rattle.smv_expr.proofs.Limited.{Obeys, always_fits, all_pass, leaf_obeys, mapped_obeys, either_obeys, many_obeys, retested, and_true}
 use Rattle.smv_expr.proofs.ExprLimited.{word_then, both_then}

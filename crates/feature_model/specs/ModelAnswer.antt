@@ -6,10 +6,9 @@ use Rattle.smv_ast.specs.declared.fault.Fault.{Fault}
 use Rattle.smv_ast.specs.declared.fault.Fault.TheVariants as fault
 use Rattle.smv_expr.specs.Lexicon.{Bytes, tokens}
 use Rattle.smv_expr.specs.Language.{Tokens}
-use Rattle.smv_expr.specs.Reading.{Outcome, remaining_of}
+use Rattle.smv_expr.specs.Reading.{Outcome}
 use Rattle.smv_expr.specs.Reading.Outcome.{Read, Stop}
-use Rattle.smv_expr.specs.Answer.{AreWithin, result_of}
-use Rattle.feature_model.specs.TextGrammar.{model_text, low_text}
+use Rattle.smv_expr.specs.Answer.{result_of}
 use Rattle.feature_model.specs.TextReaders.{read_strict_text}
 use Rattle.feature_model.specs.TextAnswer.{IsModelText, TextVerdict}
 use Rattle.feature_model.specs.NameFaults.{text_fault}

@@ -1,5 +1,5 @@
 -- What the tokens of a file are that is to be the text of a feature model.
-use Rattle.std.specs.Prelude.{◌≡◌, ℕ, Bool, true, false, List, [], ◌∷◌, ◌++◌, Option, Some, None}
+use Rattle.std.specs.Prelude.{◌≡◌, true, false, List, ◌++◌, Option, Some, None}
 use Rattle.std.specs.List.{list_all}
 use Rattle.smv_ast.specs.declared.syntax.Span.{Span}
 use Rattle.smv_ast.specs.declared.syntax.Expr.{Expr}
@@ -14,7 +14,6 @@ use Rattle.smv_expr.specs.ExprAnswer.{is_low}
 use Rattle.smv_expr.specs.Answer.{unlimited, IsText, GoesOn, Verdict}
 use Rattle.feature_model.specs.Propositional.{is_propositional}
 use Rattle.feature_model.specs.TextGrammar.{header, line, model_text, low_line, low_text, is_logical_line, has_formulas}
-use Rattle.feature_model.specs.declared.text.FeatureName.{FeatureName}
 use Rattle.feature_model.specs.declared.text.TextLine.{TextLine}
 use Rattle.feature_model.specs.declared.text.ModelText.{ModelText}
 use Rattle.feature_model.specs.declared.text.TextReading.{TextReading}

@@ -1,9 +1,8 @@
 -- The reader of each part of the text of a feature model.
-use Rattle.std.specs.Prelude.{ℕ, Bool, true, false, if◌then◌else◌, List, [], ◌∷◌, ◌++◌, Option, Some, None, is_some}
+use Rattle.std.specs.Prelude.{Bool, if◌then◌else◌, List, [], ◌∷◌, ◌++◌, Some, None, is_some}
 use Rattle.smv_ast.specs.declared.syntax.Span.{Span}
 use Rattle.smv_ast.specs.declared.syntax.Expr.{Expr}
 use Rattle.smv_expr.specs.declared.kind.Kind.TheVariants as k
-use Rattle.smv_expr.specs.Language.{Tokens}
 use Rattle.smv_expr.specs.Reading.{Reader, and_then, read_word, read_name, read_one_of, read_both, read_mapped, read_either, read_many, read_more}
 use Rattle.smv_expr.specs.Reading.Outcome.{Read, Stop}
 use Rattle.smv_expr.specs.Reading.Cause.{UnexpectedToken}

@@ -1,6 +1,5 @@
-use Rattle.std.proofs.Common.{refl, sym, ◌∙◌, ap, subst}
+use Rattle.std.proofs.Common.{sym, subst}
 use Rattle.smv_expr.specs.Reading.{Outcome, Gives}
-use Rattle.smv_expr.specs.Reading.Outcome.{Read}
 use Rattle.feature_model.specs.ModelAnswer.{Is, text_result}
 use Rattle.feature_model.specs.declared.text.TextReading.{TextReading}
 use Rattle.feature_model.proofs.ModelAnswers.{stop_reported}

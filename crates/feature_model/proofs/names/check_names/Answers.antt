@@ -1,5 +1,5 @@
 use Rattle.std.proofs.Common.{◌≡◌, Bool, List, None, Err, sym, ◌∙◌, ap, subst}
-use Rattle.std.specs.Prelude.{Result, Option}
+use Rattle.std.specs.Prelude.{Option}
 use Rattle.smv_ast.specs.declared.fault.Fault.{Fault}
 use Rattle.feature_model.specs.Constraints.{Name}
 use Rattle.feature_model.specs.NameSets.{in_set, no_name, and_name}

@@ -1,4 +1,4 @@
-use Rattle.std.proofs.Common.{◌≡◌, ◌+◌, ◌++◌, ◌∷◌, [], ◌∙◌, ap}
+use Rattle.std.proofs.Common.{◌+◌, ◌++◌, ◌∷◌, [], ◌∙◌, ap}
 use Rattle.feature_model.proofs.NumberingLemmas.{range_more}
 use Rattle.feature_model.proofs.numbering.numbers_from.Goals as goal
 
