@@ -1,6 +1,6 @@
 -- What is found of a rule is right of each rule that says more.
 use Rattle.std.specs.List.{list_any}
-use Rattle.std.proofs.Common.{◌≡◌, ℕ, List, [], ◌∷◌, take, Bool, true, false, not, ◌&&◌, ◌||◌, refl, sym, ap, ◌∙◌, subst}
+use Rattle.std.proofs.Common.{◌≡◌, ℕ, List, [], ◌∷◌, take, Bool, true, false, not, ◌&&◌, ◌||◌, refl}
 use Rattle.smv_ast.specs.declared.model.Product.{Product}
 use Rattle.feature_model.specs.declared.partial_product.PartialProduct.{PartialProduct}
 use Rattle.feature_model.specs.declared.finding.Finding.{Finding}

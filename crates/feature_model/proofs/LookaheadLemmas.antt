@@ -1,5 +1,5 @@
 -- What a rule made of others may be.
-use Rattle.std.proofs.Common.{◌≡◌, ◌≢◌, ℕ, ◌<◌, Bool, true, false, not, ◌&&◌, ◌||◌, refl, sym, ap, ◌∙◌, subst}
+use Rattle.std.proofs.Common.{◌≡◌, ◌≢◌, ℕ, ◌<◌, Bool, true, false, not, ◌&&◌, ◌||◌, refl, ap, ◌∙◌, subst}
 use Rattle.std.specs.Prelude.{bit_and, bit_or}
 use Rattle.std.specs.Bool.{beq}
 use Rattle.smv_ast.specs.declared.model.Product.{Product}
@@ -7,7 +7,7 @@ use Rattle.feature_model.specs.declared.partial_product.PartialProduct.{PartialP
 use Rattle.feature_model.specs.declared.lookahead.Possible.{Possible}
 use Rattle.feature_model.specs.declared.lookahead.Lookahead.{Lookahead}
 use Rattle.feature_model.specs.Products.{has}
-use Rattle.feature_model.specs.PartialProducts.{is_decided, AgreesOn}
+use Rattle.feature_model.specs.PartialProducts.{AgreesOn}
 use Rattle.feature_model.specs.Lookaheads.{allows, HasValueOf, Covers, IsLookahead}
 use Rattle.feature_model.proofs.SetLemmas.{has_both, has_either, has_all}
 

@@ -1,14 +1,14 @@
 -- What is known of valid products where one more feature is decided.
-use Rattle.std.proofs.Common.{◌≡◌, ◌≢◌, ℕ, ◌+◌, ◌-◌, ◌*◌, ◌^◌, ◌<◌, ◌≤◌, Bool, true, false, not, ◌&&◌, ◌||◌, ◌⊎◌, inl, inr, refl, sym, ap, ◌∙◌, subst, arith, length, pow_mono}
+use Rattle.std.proofs.Common.{◌≡◌, ◌≢◌, ℕ, ◌+◌, ◌-◌, ◌^◌, ◌<◌, ◌≤◌, Bool, true, false, not, ◌||◌, ◌⊎◌, inl, inr, refl, sym, ap, ◌∙◌, subst, arith, length, pow_mono}
 use Rattle.std.specs.Prelude.{bit_or, MatchOption, Result, Ok, Err}
 use Rattle.std.specs.Result.{result_ok}
 use Rattle.std.specs.Int.{bit_at}
 use Rattle.std.proofs.lemmas.Nat.Bits.{same_from_bits_below}
-use Rattle.std.proofs.lemmas.Bool.{cases_lt, cases_eq}
+use Rattle.std.proofs.lemmas.Bool.{cases_eq}
 use Rattle.smv_ast.specs.declared.model.FeatureModel.{FeatureModel}
 use Rattle.smv_ast.specs.declared.model.Product.{Product}
 use Rattle.feature_model.specs.declared.partial_product.PartialProduct.{PartialProduct}
-use Rattle.feature_model.specs.Products.{has, Has, Lacks, Precedes, HasSigns}
+use Rattle.feature_model.specs.Products.{has, Has}
 use Rattle.feature_model.specs.Validity.{IsValid}
 use Rattle.feature_model.specs.PartialProducts.{is_decided, IsConsistent, AgreesAt, AgreesOn, Agrees, DecidesOne, IsFirstOpen}
 use Rattle.feature_model.specs.Findings.{Conflicts}

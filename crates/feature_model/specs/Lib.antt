@@ -7,3 +7,11 @@ pub mod Findings
 pub mod WellFormed
 pub mod FirstValid
 pub mod Formula
+pub mod Propositional
+pub mod NameSets
+pub mod NameFaults
+pub mod ModelOfText
+pub mod TextGrammar
+pub mod TextReaders
+pub mod TextAnswer
+pub mod ModelAnswer

@@ -1,5 +1,5 @@
 -- Valid products.
-use Rattle.std.specs.Prelude.{◌≡◌, ℕ, ◌^◌, ◌<◌, List, length, All, Any, AllPairs, IsTrue}
+use Rattle.std.specs.Prelude.{ℕ, ◌^◌, ◌<◌, List, length, All, Any, AllPairs, IsTrue}
 use Rattle.smv_ast.specs.declared.model.GroupKind.{GroupKind}
 use Rattle.smv_ast.specs.declared.model.GroupKind.TheVariants.{Mandatory, Optional, Or, Alternative}
 use Rattle.smv_ast.specs.declared.model.ModelLine.{ModelLine}

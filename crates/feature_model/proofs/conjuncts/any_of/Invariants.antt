@@ -1,4 +1,4 @@
-use Rattle.std.proofs.Common.{◌≡◌, ℕ, drop, fold}
+use Rattle.std.proofs.Common.{◌≡◌, drop, fold}
 use Rattle.smv_ast.specs.declared.syntax.Op.TheVariants as op
 use Rattle.smv_ast.specs.declared.syntax.Expr.TheVariants as e
 use Rattle.feature_model.specs.Formula.{named, any_of}

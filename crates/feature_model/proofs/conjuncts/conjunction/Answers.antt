@@ -1,5 +1,3 @@
-use Rattle.std.proofs.Common.{ℕ, ◌<◌, ◌≤◌, length, subst, sym, ap, arith}
-use Rattle.feature_model.specs.WellFormed.{IsBelow}
 use Rattle.feature_model.proofs.WellFormedLemmas.{root_there, line_below}
 use Rattle.feature_model.proofs.conjuncts.conjunction.Goals as goal
 

@@ -1,6 +1,6 @@
 use Rattle.std.proofs.Common.{true, false, not, sym}
-use Rattle.feature_model.specs.Constraints.{path_value, op_value, value}
-use Rattle.feature_model.proofs.ConstraintLemmas.{value_true, value_false, value_name, value_not, value_binary}
+use Rattle.feature_model.specs.Constraints.{op_value, value}
+use Rattle.feature_model.proofs.ConstraintLemmas.{value_true, value_false, value_not, value_binary}
 use Rattle.feature_model.proofs.LookaheadLemmas.{same_rule}
 use Rattle.feature_model.proofs.propagation.+constraint_ahead.Goals as goal
 

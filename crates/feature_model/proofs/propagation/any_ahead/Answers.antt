@@ -1,4 +1,4 @@
-use Rattle.std.proofs.Common.{ℕ, ◌<◌, ◌||◌, length, take, false, get_or, sym, refl, ap, arith}
+use Rattle.std.proofs.Common.{◌<◌, ◌||◌, length, take, false, get_or, sym, ap, arith}
 use Rattle.std.specs.List.{list_any}
 use Rattle.std.proofs.lemmas.List.Folds.{list_any_more}
 use Rattle.std.proofs.lemmas.List.{take_all}

@@ -1,7 +1,7 @@
 use Rattle.std.proofs.Common.{◌≡◌, true, not, ◌||◌}
 use Rattle.std.specs.List.{list_any}
 use Rattle.std.proofs.lemmas.List.Folds.{list_any-from_Any}
-use Rattle.feature_model.specs.Products.{has, Has}
+use Rattle.feature_model.specs.Products.{has}
 use Rattle.feature_model.specs.Validity.{AtLeastOne}
 use Rattle.feature_model.proofs.FindingLemmas.{of_stronger, implied}
 use Rattle.feature_model.proofs.propagation.at_least_one.Goals as goal

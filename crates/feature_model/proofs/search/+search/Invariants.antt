@@ -1,4 +1,4 @@
-use Rattle.std.proofs.Common.{◌+◌, ◌-◌, ◌*◌, ◌^◌}
+use Rattle.std.proofs.Common.{◌+◌, ◌*◌}
 use Rattle.feature_model.proofs.SearchLemmas.{room}
 use Rattle.feature_model.proofs.search.+search.Given as goal
 

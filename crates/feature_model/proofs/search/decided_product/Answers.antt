@@ -1,5 +1,4 @@
-use Rattle.std.proofs.Common.{◌≡◌, ◌<◌, ◌^◌, true, subst, sym}
-use Rattle.smv_ast.specs.declared.model.Product.{Product}
+use Rattle.std.proofs.Common.{◌≡◌, true}
 use Rattle.feature_model.proofs.SearchLemmas.{first_decided, conflict_decided}
 use Rattle.feature_model.proofs.search.decided_product.Goals as goal
 

@@ -1,4 +1,4 @@
-use Rattle.std.proofs.Common.{◌≡◌, ℕ, ◌*◌, ◌/◌, ◌^◌, ◌<◌, ◌≤◌, IsTrue, nat_eq, arith, pow_pos, pow_mono, sym, refl, eq-eqb}
+use Rattle.std.proofs.Common.{◌^◌, arith, pow_pos, pow_mono, eq-eqb}
 use Rattle.std.proofs.Math.Nat.{div-lt_iff_lt-mul, div-eq_of_lt}
 use Rattle.std.proofs.lemmas.Bool.Decides.{nat_tests}
 use Rattle.feature_model.proofs.validity.is_among_first.Goals as goal

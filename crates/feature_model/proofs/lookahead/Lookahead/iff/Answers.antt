@@ -1,4 +1,4 @@
-use Rattle.std.proofs.Common.{not, ◌&&◌, ◌||◌}
+use Rattle.std.proofs.Common.{not, ◌||◌}
 use Rattle.std.specs.Bool.{beq}
 use Rattle.feature_model.proofs.LookaheadLemmas.{both_ways, same_rule}
 use Rattle.feature_model.proofs.lookahead.Lookahead.iff.Goals as goal

@@ -1,5 +1,3 @@
-use Rattle.std.proofs.Common.{◌≡◌, ◌<◌, true, sym, subst}
-use Rattle.feature_model.specs.Lookaheads.{allows}
 use Rattle.feature_model.proofs.LookaheadLemmas.{allows_true, allows_false}
 use Rattle.feature_model.proofs.lookahead.Possible.constant.Goals as goal
 

@@ -1,0 +1,28 @@
+-- Sets of names, after an insertion.
+use Rattle.std.proofs.Common.{◌≡◌, List, Bool, true, false, ◌||◌, cond, refl, sym, ◌∙◌, ap}
+use Rattle.std.specs.Str.{bytes_eq}
+use Rattle.std.specs.HashSet.{Updates, IsEmpty}
+use Rattle.std.specs.List.{list_any}
+use Rattle.std.proofs.lemmas.Slice.Eq.{bytes_eq-Decides}
+use Rattle.std.proofs.lemmas.Bool.Decides.{same_from_decides}
+use mathlib.Core.Path.{fun_ext}
+use denote.Ref.{Bor}
+use Rattle.feature_model.specs.Constraints.{Name}
+use Rattle.feature_model.specs.NameSets.{NameSet, in_set, no_name, and_name}
+
+pub bytes_eq-swapped : (a b : Name) → bytes_eq a b ≡ bytes_eq b a
+bytes_eq-swapped a b = same_from_decides (bytes_eq a b) (bytes_eq b a) (bytes_eq-Decides a b) ((λ e. sym ((bytes_eq-Decides b a).0 e)), (λ e. (bytes_eq-Decides b a).1 (sym e)))
+
+either_way : (b c x : Bool) → b ≡ c → cond b true x ≡ (x || c)
+either_way true c true e = refl
+either_way true c false e = e
+either_way false c true e = refl
+either_way false c false e = e
+
+-- a set with one more name
+pub in_set_inserted : (s n : NameSet) (k : Bor Name) → Updates (λ x y. bytes_eq x.now y.now) s n k true → in_set n ≡ and_name (in_set s) k.now
+in_set_inserted s n k h = fun_ext (λ name. h.0 (record { ref_ptr = (0, 0); now = name }) ∙ either_way _ _ _ (bytes_eq-swapped k.now name))
+
+-- an empty set has no name
+pub in_set_empty : (s : NameSet) → IsEmpty s → in_set s ≡ no_name
+in_set_empty s h = fun_ext (λ name. ap (λ (ks : List (Bor Name)). list_any (λ n. bytes_eq name n.now) ks) h)

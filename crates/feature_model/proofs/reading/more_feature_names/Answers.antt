@@ -1,0 +1,28 @@
+use Rattle.std.proofs.Common.{sym, ◌∙◌, [], ◌∷◌, arith, rules}
+use Rattle.std.proofs.lemmas.Grind.{common_steps}
+use Rattle.smv_expr.specs.declared.kind.Kind.TheVariants as k
+use Rattle.smv_expr.specs.Reading.{pushed}
+use Rattle.smv_expr.proofs.Rounds.{one_round, rounds_end}
+use Rattle.feature_model.specs.TextReaders.{read_next_feature_name, read_more_feature_names}
+use Rattle.feature_model.proofs.TextRules.{next_name_consumes}
+use Rattle.feature_model.proofs.reading.more_feature_names.Goals as goal
+
+pub rounds-init : goal.rounds-init
+unfolding read_more_feature_names
+rounds-init c = search rules
+
+pub returns-in_err-one : goal.returns-in_err-one
+returns-in_err-one c =
+    let round = c.rounds.invariant ∙ one_round (k.Comma ∷ []) read_next_feature_name pushed next_name_consumes c.rounds.found c.rounds.tokens (sym c.sees.ensures ∙ c.rounds-test.true) in
+    first_of (search rules, grind (arith, common_steps))
+
+pub rounds-smaller : goal.rounds-smaller
+rounds-smaller c = next_name_consumes.less c.rounds.tokens c.in_ok-one.one _ c.in_ok-one.ensures
+
+pub rounds-preserved : goal.rounds-preserved
+rounds-preserved c =
+    let round = c.rounds.invariant ∙ one_round (k.Comma ∷ []) read_next_feature_name pushed next_name_consumes c.rounds.found c.rounds.tokens (sym c.sees.ensures ∙ c.rounds-test.true) in
+    first_of (search rules, grind (arith, common_steps))
+
+pub returns : goal.returns
+returns c = c.rounds.invariant ∙ rounds_end (k.Comma ∷ []) read_next_feature_name pushed c.rounds.found c.rounds.tokens (sym c.sees.ensures ∙ c.rounds-test.false)
