@@ -1,0 +1,94 @@
+//! Applying the changes of a feature, one after another.
+
+ghost use Rattle.std.specs.Prelude.{◌≡◌, IfOk};
+ghost use Rattle.integrate_impose.specs.Answers.{Answers};
+ghost use Rattle.integrate.specs.Changes as spec;
+
+use crate::names::{MissingName, first_missing};
+use integrate_impose::impose;
+use integrate_treat::treat;
+use smv_ast::{Action, Change, Fault, NoMemory, Product, Program, Text};
+use std::alloc::Global;
+
+fn missing_fault(
+    alloc: Global,
+    feature: &Text,
+    product: Product,
+    missing: MissingName,
+) -> Result<Fault, NoMemory>
+    ensures { IfOk result (λ f. f ≡ spec.missing_fault feature.now product missing) }
+{
+    Ok(Fault::RequireMissing {
+        at: Some(missing.at),
+        feature: feature.try_clone(alloc)?,
+        name: missing.name,
+        product,
+    })
+}
+
+fn act(alloc: Global, program: Program, change: &Change) -> Result<Program, Fault>
+    ensures { Answers (spec.acted change.now change.now.action program) result }
+{
+    let called = change.module.as_str();
+    match &change.action {
+        Action::Impose { left, name, right } => impose(
+            alloc,
+            program,
+            called,
+            &change.cond,
+            *left,
+            name.as_str(),
+            right,
+            change.at,
+        ),
+        Action::Treat { path, right } => treat(
+            alloc,
+            program,
+            called,
+            &change.cond,
+            path,
+            right,
+            change.at,
+        ),
+    }
+}
+
+/// The model with the change applied, or the fault of the change.
+fn apply_change(
+    alloc: Global,
+    feature: &Text,
+    product: Product,
+    program: Program,
+    change: &Change,
+) -> Result<Program, Fault>
+    ensures { Answers (spec.changed feature.now product program change.now) result }
+{
+    match first_missing(alloc, &program, change)? {
+        Some(missing) => Err(missing_fault(alloc, feature, product, missing)?),
+        None => act(alloc, program, change),
+    }
+}
+
+/// The model with the changes of a feature applied in order, each to the model as changed so far, or
+/// the fault of the first that cannot be applied. The model is consumed.
+///
+/// RequireMissing, which keeps the given product, where a change uses a name that is not known; then
+/// the faults of `impose` and `treat`.
+pub fn apply_changes(
+    alloc: Global,
+    feature: &Text,
+    product: Product,
+    program: Program,
+    changes: &[Change],
+) -> Result<Program, Fault>
+    ensures { Answers (spec.all_changed feature.now product program changes.now) result }
+{
+    let mut program = program;
+    for change in changes {
+        match apply_change(alloc, feature, product, program, change) {
+            Ok(next) => program = next,
+            Err(fault) => return Err(fault),
+        }
+    }
+    Ok(program)
+}
