@@ -127,12 +127,17 @@ fn run_with_a_choice(rt: HostRuntime) -> Result<(), Fail> {
     Ok(())
 }
 
+// Whether the expression is true in `main`.
+fn holds(alloc: Global, program: &Program, e: &Expr, state: &RunState) -> Result<bool, NoMemory> {
+    spec_holds(alloc, program, "main", e, state)
+}
+
 #[test]
 fn bounds_of_a_counter(rt: HostRuntime) -> Result<(), Fail> {
     let alloc = rt.alloc();
     let program = counter(alloc, variable(alloc)?)?;
     let bound = compared(alloc, Op::Le, 2)?;
-    assert!(rt; spec_holds(alloc, &program, "main", &bound, &state(alloc, 2)?)?);
-    assert!(rt; !spec_holds(alloc, &program, "main", &bound, &state(alloc, 3)?)?);
+    assert!(rt; holds(alloc, &program, &bound, &state(alloc, 2)?)?);
+    assert!(rt; !holds(alloc, &program, &bound, &state(alloc, 3)?)?);
     Ok(())
 }

@@ -1,7 +1,7 @@
 -- Values and answers depend on the values that a state gives the program's variables alone.
-use Rattle.std.proofs.Common.{◌≡◌, ℕ, zero, suc, inl, inr, Bool, true, false, ◌&&◌, ◌||◌, List, [], ◌∷◌, ◌++◌, map, Option, Some, None, refl, sym, ap, ◌∙◌, subst, cond}
+use Rattle.std.proofs.Common.{◌≡◌, ℕ, zero, suc, inl, inr, Bool, true, false, ◌&&◌, ◌||◌, List, [], ◌∷◌, ◌++◌, map, length, Option, Some, None, codes, refl, sym, ap, ◌∙◌, subst, cond, arith}
 use Rattle.std.specs.Prelude.{find}
-use Rattle.std.specs.List.{list_any}
+use Rattle.std.specs.List.{list_any, Contains}
 use Rattle.std.specs.Str.{bytes_eq}
 use Rattle.std.proofs.lemmas.Slice.Eq.{bytes_eq-Decides}
 use mathlib.Core.Path.{fun_ext}
@@ -18,12 +18,12 @@ use Rattle.fixpoint.specs.Fixpoints.{known, most}
 use Rattle.smv_meaning.specs.Value.{Name, and_then, is_true}
 use Rattle.smv_meaning.specs.Paths.{QualifiedName, Binding, IsVariable, IsInstance, IsDefine, IsFormal, IsNothing, resolve}
 use Rattle.smv_meaning.specs.Denotations.{Environment, denotation_of}
-use Rattle.smv_meaning.specs.Instances.{Instance, binding_at, instances, instance_text, module_at, path_of}
+use Rattle.smv_meaning.specs.Instances.{Instance, Main, binding_at, subtree, instances, instance_text, module_at, path_of}
 use Rattle.smv_meaning.specs.Items.{Item, Declares, Assigns, Defines, Constrains, items, at_of}
 use Rattle.smv_meaning.specs.Values.{State, Valuation, symbol_of, value_at_path, environment_by, read_by, value_of_binding, valuation_step, variable_in, values_in, environment_in, value_in, allows_in}
-use Rattle.smv_meaning.specs.Runs.{VariableAt, variables, same_path, is_variable, IsState, IsExactState, written_state, state_of, surely, is_assigned, is_true_in, begins, stays, steps, meets, unless_met, or_else, first_fault, broken_at, first_broken, answer_from, answer_of, holds_at}
-use Rattle.smv_meaning.specs.RunCheck.{written_answer}
-use Rattle.smv_meaning.proofs.MemberLemmas.{In}
+use Rattle.smv_meaning.specs.Runs.{VariableAt, variables, same_path, is_variable, IsState, IsExactState, written_state, state_of, surely, is_assigned, is_true_in, begins, stays, steps, meets, unless_met, or_else, first_fault, broken_at, first_broken, answer_from, answer_of, HasInstance, instance_named, holds_at}
+use Rattle.smv_meaning.specs.RunCheck.{written_answer, held_at}
+use Rattle.smv_meaning.proofs.MemberLemmas.{In, in_of, from_map}
 use Rattle.smv_meaning.proofs.BindingLemmas.{bound_variable, formal_there, resolves_in}
 
 -- ---- the paths of variables
@@ -172,19 +172,49 @@ module _ (program : Program) where
   answer_same states = sym (from_same 0 None None states tt)
 
 -- nor to the truth of an expression
-pub holds_same : (program : Program) (text : List ℕ) (e : Expr) (written : RunState) → holds_at program text e (written_state written) ≡ holds_at program text e (state_of program written)
-holds_same program text e written = found (instances program) (λ instance i. i)
+abbrev held_by : Program → Expr → State → Option Instance → Bool
+held_by program e s o = elim o as (λ o. Bool) [ None ↦ false | Some instance ↦ is_true (value_in program s s instance e) ]
+
+-- two states give an expression the same truth in the first instance of a text
+abbrev SameTruth : Program → Expr → State → State → Option Instance → Type 0
+SameTruth program e s t o = held_by program e s o ≡ held_by program e t o
+
+held_among : (program : Program) (text : List ℕ) (e : Expr) (s t : State) → Agree program s t → (ps : List Instance) → ((instance : Instance) → In instance ps → In instance (instances program)) → SameTruth program e s t (find (λ instance. bytes_eq (instance_text instance) text) ps)
+held_among program text e s t a [] h = refl
+held_among program text e s t a (p ∷ ps) h = at (bytes_eq (instance_text p) text) (held_among program text e s t a ps (λ instance i. h instance (inr i)))
   where
-    found : (ps : List Instance) → ((instance : Instance) → In instance ps → In instance (instances program)) →
-        elim (find (λ instance. bytes_eq (instance_text instance) text) ps) as (λ o. Bool) [ None ↦ false | Some instance ↦ is_true (value_in program (written_state written) (written_state written) instance e) ]
-        ≡ elim (find (λ instance. bytes_eq (instance_text instance) text) ps) as (λ o. Bool) [ None ↦ false | Some instance ↦ is_true (value_in program (state_of program written) (state_of program written) instance e) ]
-    found [] h = refl
-    found (p ∷ ps) h = at (bytes_eq (instance_text p) text) (found ps (λ instance i. h instance (inr i)))
-      where
-        at : (b : Bool) →
-            elim (find (λ instance. bytes_eq (instance_text instance) text) ps) as (λ o. Bool) [ None ↦ false | Some instance ↦ is_true (value_in program (written_state written) (written_state written) instance e) ]
-            ≡ elim (find (λ instance. bytes_eq (instance_text instance) text) ps) as (λ o. Bool) [ None ↦ false | Some instance ↦ is_true (value_in program (state_of program written) (state_of program written) instance e) ] →
-            elim (cond b (Some p) (find (λ instance. bytes_eq (instance_text instance) text) ps)) as (λ o. Bool) [ None ↦ false | Some instance ↦ is_true (value_in program (written_state written) (written_state written) instance e) ]
-            ≡ elim (cond b (Some p) (find (λ instance. bytes_eq (instance_text instance) text) ps)) as (λ o. Bool) [ None ↦ false | Some instance ↦ is_true (value_in program (state_of program written) (state_of program written) instance e) ]
-        at true more = sym (true_same program p (h p (inl refl)) (state_of program written) (written_state written) (state_of program written) (written_state written) (state_agrees program written) (state_agrees program written) e)
-        at false more = more
+    at : (b : Bool) → SameTruth program e s t (find (λ instance. bytes_eq (instance_text instance) text) ps) → SameTruth program e s t (cond b (Some p) (find (λ instance. bytes_eq (instance_text instance) text) ps))
+    at true more = true_same program p (h p (inl refl)) s t s t a a e
+    at false more = more
+
+held_same : (program : Program) (text : List ℕ) (e : Expr) (written : RunState) → held_at program text e (state_of program written) ≡ held_at program text e (written_state written)
+held_same program text e written = held_among program text e (state_of program written) (written_state written) (state_agrees program written) (instances program) (λ instance i. i)
+
+find_in : {A : Type 0} (p : A → Bool) (xs : List A) (x : A) → In x xs → p x ≡ true → (y : A) × (find p xs ≡ Some y)
+find_in p [] x i h = absurd i
+find_in {A} p (y ∷ ys) x (inl e) h = (y, ap (λ (b : Bool). cond b (Some y) (find p ys)) (ap p e ∙ h))
+find_in {A} p (y ∷ ys) x (inr i) h = at (p y) (find_in p ys x i h)
+  where
+    at : (b : Bool) → (z : A) × (find p ys ≡ Some z) → (z : A) × (cond b (Some y) (find p ys) ≡ Some z)
+    at true r = (y, refl)
+    at false r = r
+
+-- the answer where there is an instance of this text
+pub holds_there : (program : Program) (text : List ℕ) (e : Expr) (written : RunState) (b : Bool) → HasInstance program text → b ≡ held_at program text e (written_state written) → Some b ≡ holds_at program text e (state_of program written)
+holds_there program text e written b there is =
+    let r = from_map instance_text (instances program) text (in_of (map instance_text (instances program)) text there) in
+    let f = find_in (λ instance. bytes_eq (instance_text instance) text) (instances program) r.0 r.1 ((bytes_eq-Decides (instance_text r.0) text).1 r.2) in
+    ap (λ (x : Bool). Some x) (is ∙ sym (held_same program text e written))
+    ∙ at (instance_named program text) f.0 f.1
+  where
+    at : (o : Option Instance) (p : Instance) → o ≡ Some p → Some (elim o as (λ o. Bool) [ None ↦ false | Some instance ↦ is_true (value_in program (state_of program written) (state_of program written) instance e) ]) ≡ and_then o (λ instance. Some (is_true (value_in program (state_of program written) (state_of program written) instance e)))
+    at None p f = cc
+    at (Some q) p f = refl
+
+-- `main` is an instance of each program
+pub main_there : (program : Program) → HasInstance program (codes "main")
+main_there program = at (length program.modules)
+  where
+    at : (n : ℕ) → Contains (map instance_text (subtree n program Main)) (codes "main")
+    at zero = (0, omega arith, refl)
+    at (suc n) = (0, omega arith, refl)

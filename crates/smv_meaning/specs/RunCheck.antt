@@ -10,11 +10,13 @@ use Rattle.smv_meaning.specs.declared.table.InstanceTable.{InstanceTable}
 use Rattle.smv_meaning.specs.declared.table.Link.{Link}
 use Rattle.smv_meaning.specs.declared.valuation.RunContext.{RunContext}
 use Rattle.smv_meaning.specs.Instances.{Instance, module_at, instance_text}
-use Rattle.smv_meaning.specs.Runs.{written_state, first_fault, answer_from, holds_at}
+use Rattle.smv_meaning.specs.Runs.{written_state, first_fault, answer_from, instance_named}
 use Rattle.smv_meaning.specs.ItemIndex.{items_at}
 use Rattle.smv_meaning.specs.declared.value.Value.{Value}
 use Rattle.smv_meaning.specs.declared.run.RunState.{RunState}
 use Rattle.smv_meaning.specs.declared.run.RunAnswer.{RunAnswer}
+use Rattle.smv_meaning.specs.Value.{is_true}
+use Rattle.smv_meaning.specs.Values.{State, value_in}
 use Rattle.smv_meaning.specs.Checking.{instance_at, IsValuationOf}
 use Rattle.smv_meaning.specs.MetItems.{first_unmet, true_in, view_state}
 
@@ -53,6 +55,11 @@ abbrev pub holds_in : RunContext → View → Expr → Option ℕ → Bool
 holds_in context view e None = false
 holds_in context view e (Some row) = true_in context row view view e
 
--- whether an expression is true in the view's state and the instance of this text
+-- whether an expression is true in a state and the instance of this text; false where there is none
+abbrev pub held_at : Program → List ℕ → Expr → State → Bool
+held_at program text e s = elim (instance_named program text)
+    [ None ↦ false | Some instance ↦ is_true (value_in program s s instance e) ]
+
+-- the same of the view's state
 abbrev pub context_holds : RunContext → View → Expr → List ℕ → Bool
-context_holds context view e text = holds_at context.program.now text e (view_state view)
+context_holds context view e text = held_at context.program.now text e (view_state view)

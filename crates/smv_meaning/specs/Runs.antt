@@ -198,8 +198,18 @@ answer_from program step before (s ∷ more) =
 abbrev pub answer_of : Program → List RunState → RunAnswer
 answer_of program written = answer_from program 0 None (map (state_of program) written)
 
--- whether an expression is true in a state and the instance of this text; false where there is none
-abbrev pub holds_at : Program → List ℕ → Expr → State → Bool
-holds_at program text e s =
-    elim (find (λ instance. bytes_eq (instance_text instance) text) (instances program))
-    [ None ↦ false | Some instance ↦ is_true (value_in program s s instance e) ]
+-- ---- one expression
+
+-- the text is that of an instance of the program
+abbrev pub HasInstance : Program → List ℕ → Type 0
+HasInstance program text = Contains (map instance_text (instances program)) text
+
+-- the first instance of this text, if there is one
+abbrev pub instance_named : Program → List ℕ → Option Instance
+instance_named program text = find (λ instance. bytes_eq (instance_text instance) text)
+    (instances program)
+
+-- whether an expression is true in a state and the instance of this text, if there is one
+abbrev pub holds_at : Program → List ℕ → Expr → State → Option Bool
+holds_at program text e s = and_then (instance_named program text)
+    (λ instance. Some (is_true (value_in program s s instance e)))

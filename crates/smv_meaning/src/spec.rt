@@ -1,6 +1,6 @@
 //! The truth of an expression in a state and an instance.
 
-ghost use Rattle.std.specs.Prelude.{◌≡◌, ◌<◌, IfOk, length, map};
+ghost use Rattle.std.specs.Prelude.{◌≡◌, ◌<◌, IfOk, Some, length, map};
 ghost use Rattle.std.specs.Str.{bytes_eq};
 ghost use Rattle.smv_meaning.specs.Instances as instances;
 ghost use Rattle.smv_meaning.specs.Runs as spec;
@@ -131,7 +131,7 @@ fn holds_of_context(
     requires names { valuation.SpellsNames table.now.rows texts.now }
     requires paths { valuation.ArePathTexts table.now.rows texts.now }
     ensures { IfOk result (λ b. b
-        ≡ spec.holds_at program.now instance.now e.now (spec.written_state state.now)) }
+        ≡ check.held_at program.now instance.now e.now (spec.written_state state.now)) }
 {
     let symbols = symbols_of(alloc, program)?;
     let context = RunContext {
@@ -158,7 +158,7 @@ fn holds_by<'t>(
     requires texts { valuation.ArePathTexts context.now.table.now.rows context.now.texts.now }
     requires solution { checking.IsValuationOf context.now written.now solution.now }
     ensures { IfOk result (λ b. b
-        ≡ spec.holds_at context.now.program.now instance.now e.now (spec.written_state written.now)) }
+        ≡ check.held_at context.now.program.now instance.now e.now (spec.written_state written.now)) }
 {
     holds_in(alloc, context, instance, e, View { written, solution })
 }
@@ -173,7 +173,7 @@ fn holds_of_table(
 ) -> Result<bool, NoMemory>
     requires { checking.IsTableOfProgram program.now table.now }
     ensures { IfOk result (λ b. b
-        ≡ spec.holds_at program.now instance.now e.now (spec.written_state state.now)) }
+        ≡ check.held_at program.now instance.now e.now (spec.written_state state.now)) }
 {
     let aliases = aliases_of(alloc, table)?;
     let texts = path_texts(alloc, table.rows.as_slice())?;
@@ -199,7 +199,7 @@ fn holds_of_scopes(
 ) -> Result<bool, NoMemory>
     requires { map scope_view scopes.now ≡ scopes_of_program program.now }
     ensures { IfOk result (λ b. b
-        ≡ spec.holds_at program.now instance.now e.now (spec.written_state state.now)) }
+        ≡ check.held_at program.now instance.now e.now (spec.written_state state.now)) }
 {
     match instance_table(alloc, program, scopes, usize::MAX)? {
         Some(table) => holds_of_table(alloc, program, &table, instance, e, state),
@@ -209,8 +209,7 @@ fn holds_of_scopes(
 }
 
 /// Whether an expression is true in a state, its names read in the instance of this text: `main`,
-/// or `main.` and the instance's path. Without such an instance the answer is false. The only error
-/// is `NoMemory`.
+/// or `main.` and the instance's path. The only error is `NoMemory`.
 pub fn spec_holds(
     alloc: Global,
     program: &Program,
@@ -218,7 +217,8 @@ pub fn spec_holds(
     expr: &Expr,
     state: &RunState,
 ) -> Result<bool, NoMemory>
-    ensures { IfOk result (λ b. b
+    requires { spec.HasInstance program.now instance.now }
+    ensures { IfOk result (λ b. Some b
         ≡ spec.holds_at program.now instance.now expr.now (spec.state_of program.now state.now)) }
 {
     let scopes = scopes_of(alloc, program)?;
