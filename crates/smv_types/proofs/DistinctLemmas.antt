@@ -93,7 +93,7 @@ declared_apart declared seen (s ∷ ss) h =
     (λ i. let b = neither (seen s.name) (bytes_eq s.name s.name) (unseen declared (and_name seen s.name) ss s.name a.1 i) in cc, declared_apart declared (and_name seen s.name) ss a.1)
 
 -- the module that was found, or the empty one
-found_apart : (name : Name) (seen : Name → Bool) (ms : List Module) → duplicate_among_modules seen ms ≡ None → Apart (entry_names (entries (or_empty name (find (λ m. bytes_eq m.name name) ms))))
+pub found_apart : (name : Name) (seen : Name → Bool) (ms : List Module) → duplicate_among_modules seen ms ≡ None → Apart (entry_names (entries (or_empty name (find (λ m. bytes_eq m.name name) ms))))
 found_apart name seen [] h = tt
 found_apart name seen (m ∷ ms) h =
     let a = neither_found (duplicate_at seen m) (duplicate_among_modules (and_name seen m.name) ms) h in
@@ -107,11 +107,11 @@ found_apart name seen (m ∷ ms) h =
 -- ---- instances
 
 -- the name under which an instance is declared
-abbrev last_name : Instance → Name
+abbrev pub last_name : Instance → Name
 last_name Main = []
 last_name (Within outer name called) = name
 
-inner_named : (program : Program) (instance c : Instance) (name : Name) (m : Entity) → In c (inner_of program instance name m) → last_name c ≡ name
+pub inner_named : (program : Program) (instance c : Instance) (name : Name) (m : Entity) → In c (inner_of program instance name m) → last_name c ≡ name
 inner_named program instance c name (Variable t) i = absurd i
 inner_named program instance c name (Inner called actuals) i = at (goes_deeper program instance) i
   where

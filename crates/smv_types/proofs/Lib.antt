@@ -3,5 +3,7 @@ pub mod ShapedPrograms
 pub mod TypedLemmas
 pub mod ApartLemmas
 pub mod DistinctLemmas
+pub mod TextLemmas
+pub mod RankLaw
 pub mod OnlyLemmas
 pub mod NodeLemmas

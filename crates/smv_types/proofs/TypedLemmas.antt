@@ -14,14 +14,20 @@ use Rattle.smv_meaning.proofs.InstanceTableLemmas.{get_within}
 use Rattle.smv_meaning.proofs.ValuationLemmas.{get_item}
 use Rattle.smv_names.specs.NamesFault.{names_fault}
 use Rattle.smv_shape.specs.Shape.{shape_fault}
+use Rattle.smv_meaning.specs.Faults.{ReportsFirst}
 use Rattle.smv_cycles.specs.HeldCycles.{OneEach}
+use Rattle.smv_cycles.specs.Cycles.{cycles_fault}
+use Rattle.smv_cycles.specs.Heights.{HaveHeights}
+use Rattle.smv_cycles.proofs.HeightLaw.{have_heights}
+use Rattle.smv_kinds.specs.Rules.{kinds_fault}
 use Rattle.std.specs.Prelude.{IfOk, Result, Ok, Err}
 use Rattle.smv_ast.specs.declared.fault.Fault.{Fault}
 use Rattle.fsmv_base.specs.declared.no_memory.NoMemory.{NoMemory}
 use Rattle.smv_kinds.specs.Soundness.{AreShaped, IsSound}
 use Rattle.smv_nodes.specs.Count.{of_program, item_exprs, program_exprs, IsCount, HasNodes}
 use Rattle.smv_nodes.specs.Held.{of_table, table_exprs}
-use Rattle.smv_types.specs.Checks.{text_fault, AreApart, IsNodes}
+use Rattle.smv_types.specs.Checks.{text_fault, read_fault, AreApart, AreDotless, HaveDistinctTexts, IsNodes}
+use Rattle.smv_types.proofs.TextLemmas.{distinct_texts}
 use Rattle.smv_types.proofs.ShapedPrograms.{neither_found, are_shaped}
 use Rattle.smv_types.proofs.DistinctLemmas.{instances_apart}
 use Rattle.smv_types.proofs.ApartLemmas.{one_each}
@@ -44,6 +50,16 @@ text_shaped program e = are_shaped program (neither_found (names_fault program) 
 -- the instances of a model without a fault of its text are distinct
 pub text_apart : (program : Program) → text_fault program ≡ None → AreApart program
 text_apart program e = instances_apart program (neither_found (names_fault program) (shape_fault program) e).0
+
+-- a model without a fault of what is read has heights
+pub read_low : {A : Type 0} (program : Program) (result : Result A Fault) → ReportsFirst (read_fault program) result → IfOk result (λ x. HaveHeights program)
+read_low program (Ok a) e = have_heights program (neither_found (cycles_fault program) (kinds_fault program) e).0
+read_low program (Err f) e = tt
+
+-- the texts of a model without a fault of its text are different, where no name contains a dot
+pub text_distinct : {A : Type 0} (program : Program) (result : Result A Fault) → text_fault program ≡ None → IfOk result (λ x. AreDotless program → HaveDistinctTexts program)
+text_distinct program (Ok a) e = distinct_texts program (neither_found (names_fault program) (shape_fault program) e).0
+text_distinct program (Err f) e = tt
 
 -- the answer of a check, once its premise holds
 pub if_sound : {A : Type 0} (program : Program) (result : Result A Fault) → AreShaped program → IfOk result (λ x. AreShaped program → IsSound program) → IfOk result (λ x. IsSound program)

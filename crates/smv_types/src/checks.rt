@@ -9,6 +9,7 @@ ghost use Rattle.smv_meaning.specs.Slots as slots;
 ghost use Rattle.smv_meaning.specs.Valuation as valuation;
 ghost use Rattle.smv_meaning.specs.RunCheck.{text_of_instance};
 ghost use Rattle.smv_cycles.specs.HeldCycles.{OneEach};
+ghost use Rattle.smv_cycles.specs.Heights.{HaveHeights};
 ghost use Rattle.smv_kinds.specs.Soundness as soundness;
 ghost use Rattle.smv_types.specs.Checks as spec;
 
@@ -224,11 +225,16 @@ fn check_text(alloc: Global, program: &Program) -> Result<(), Fault>
 /// a value of its type, each constraint has a truth value, and each subexpression of an item has a
 /// value of its kind, within its interval and the limit of magnitude, or, where it contains a
 /// choice, allows some values as a right side, and only such. An actual that denotes an instance
-/// has no value. `NoMemory` is the only other error.
+/// has no value. Each expression of an item is at most 1,000 high in each instance, through all the
+/// definitions and actuals that it reads. Where no name contains a dot, the texts of instances are
+/// pairwise different, and so are those of variables. `NoMemory` is the only other error.
 pub fn check(alloc: Global, program: &Program) -> Result<Typed, Fault>
     ensures first { ReportsFirst (spec.model_fault program.now) result }
     ensures typed { IfOk result (spec.IsTyped program.now) }
     ensures sound { IfOk result (λ _. soundness.IsSound program.now) }
+    ensures heights { IfOk result (λ _. HaveHeights program.now) }
+    ensures texts { IfOk result
+        (λ _. spec.AreDotless program.now → spec.HaveDistinctTexts program.now) }
 {
     check_text(alloc, program)?;
     let scopes = scopes_of(alloc, program)?;
