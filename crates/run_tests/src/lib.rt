@@ -1,5 +1,7 @@
-//! Tests of whole commands, over files in memory.
+//! Tests of whole commands over files in memory, and of large models from text to checks.
 #![tactic(auto)]
 
 #[cfg(test)]
 mod commands;
+#[cfg(test)]
+mod large;
