@@ -7,7 +7,7 @@ use Rattle.std.proofs.lemmas.List.Kept.{AllPairs-cons}
 use Rattle.std.proofs.lemmas.Map.Made.{IsDistinct-from_AllPairs}
 use Rattle.std.proofs.lemmas.Map.Steps.{length-le_from_distinct_below}
 use Rattle.std.proofs.lemmas.Map.Views.{Contains-from_any}
-use Rattle.smv_kinds.proofs.MemberLemmas.{In, in_of, all_in, in_map, in_either, from_flat}
+use Rattle.smv_meaning.proofs.MemberLemmas.{In, in_of, all_in, in_map, in_either, from_flat}
 
 -- ---- members
 

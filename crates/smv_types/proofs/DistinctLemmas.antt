@@ -19,7 +19,7 @@ use Rattle.smv_meaning.specs.Items.{Item, declaration_item, assignment_item, def
 use Rattle.smv_names.specs.Sets.{and_name, no_name}
 use Rattle.smv_names.specs.Duplicates.{DeclaredName, name_of_formal, names_of_item, declared_names, declares, duplicate_declared, duplicate_in_type, duplicate_name, duplicate_at, duplicate_within, duplicate_among_names, duplicate_among_modules, duplicate_fault}
 use Rattle.smv_names.specs.NamesFault.{names_fault, module_fault, instance_fault}
-use Rattle.smv_kinds.proofs.MemberLemmas.{In, from_flat, inner_is}
+use Rattle.smv_meaning.proofs.MemberLemmas.{In, from_flat, inner_is}
 use Rattle.smv_types.proofs.ApartLemmas.{Apart, pairs_of, apart_before, one_source, flat_apart}
 use Rattle.smv_types.proofs.Shaped.{neither}
 use Rattle.smv_types.proofs.ShapedPrograms.{neither_found}

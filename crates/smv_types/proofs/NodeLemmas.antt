@@ -1,13 +1,10 @@
 -- The count of nodes over a correct table, with each instance once, is that of the program.
 use Rattle.std.proofs.Common.{◌≡◌, ℕ, zero, suc, ◌<◌, Bool, List, [], ◌∷◌, ◌++◌, map, length, Option, Some, None, inl, inr, refl, sym, ap, ◌∙◌, subst}
-use Rattle.std.specs.Prelude.{false}
+use Rattle.std.specs.Prelude.{true, false}
 use Rattle.std.specs.List.{flat_map}
 use Rattle.std.specs.Option.{option_map, option_to_list}
 use Rattle.std.proofs.lemmas.List.{map-append}
 use Rattle.smv_ast.specs.declared.syntax.Expr.{Expr}
-use Rattle.smv_ast.specs.declared.program.Assignment.{Assignment}
-use Rattle.smv_ast.specs.declared.program.Section.{Section}
-use Rattle.smv_ast.specs.declared.program.Section.TheVariants as section
 use Rattle.smv_ast.specs.declared.program.Program.{Program}
 use Rattle.smv_meaning.specs.declared.table.InstanceTable.{InstanceTable}
 use Rattle.smv_meaning.specs.declared.table.Slot.{Slot}
@@ -17,16 +14,17 @@ use Rattle.smv_meaning.specs.Instances.{Instance, binding_at}
 use Rattle.smv_meaning.specs.InstanceTable.{renumbered, InRange, binding_view}
 use Rattle.smv_meaning.specs.Slots.{slot_of, binding_in, resolve_slot}
 use Rattle.smv_meaning.specs.Checking.{IsTableOfProgram, AreRows, instance_at}
-use Rattle.smv_meaning.specs.RunCheck.{sections_at}
+use Rattle.smv_meaning.specs.Items.{Item, Declares, Assigns, Defines, Constrains}
+use Rattle.smv_meaning.specs.ItemIndex.{items_at}
 use Rattle.smv_meaning.proofs.NumberLemmas.{resolve_same}
 use Rattle.smv_cycles.specs.HeldCycles.{OneEach}
 use Rattle.smv_cycles.proofs.HeightLemmas.{in_some}
 use Rattle.smv_cycles.proofs.ProgramLemmas as names
 use Rattle.smv_cycles.proofs.ProgramLemmas.{resolve_slot_is}
-use Rattle.smv_kinds.proofs.MemberLemmas.{In, in_of, all_in, in_map, from_map, in_either}
+use Rattle.smv_meaning.proofs.MemberLemmas.{In, in_of, all_in, in_map, from_map, in_either}
 use Rattle.smv_nodes.specs.Own.{saturating_add}
 use Rattle.smv_nodes.specs.Mentions.{Mention, reads_of}
-use Rattle.smv_nodes.specs.Count.{Lookup, content, of_program, ReadExpr, assigned_expr, section_exprs, item_exprs, own_nodes, Shared, name_nodes, shared_expr, shared_by, shared_among, shared_in, content_reads, names_nodes, expr_nodes, exprs_nodes, exprs_of_shared, ReachedIn, AreReached, IsCount}
+use Rattle.smv_nodes.specs.Count.{Lookup, content, of_program, ReadExpr, read_now, item_exprs, instance_exprs, own_nodes, Shared, name_nodes, shared_expr, shared_by, shared_among, shared_in, content_reads, names_nodes, expr_nodes, exprs_nodes, exprs_of_shared, ReachedIn, AreReached, IsCount}
 use Rattle.smv_nodes.specs.Held.{of_table, table_exprs}
 use Rattle.smv_types.proofs.ApartLemmas.{Apart, pairs_of, apart_of, contains_in}
 
@@ -212,35 +210,25 @@ module _ (program : Program) (table : InstanceTable) (right : IsTableOfProgram p
 
   -- ---- items
 
-  assigned_same : (row : ℕ) → row < n → (xs : List Assignment) → SameReadExprs (map (assigned_expr row) xs) (map (assigned_expr (instance_at table row)) xs)
-  assigned_same row h [] = record { same = refl; inside = λ p i. absurd i }
-  assigned_same row h (a ∷ xs) = let s = assigned_same row h xs in record {
-    same = ap (λ (l : List (ReadExpr Instance)). assigned_expr (instance_at table row) a ∷ l) s.same;
-    inside = λ p i. elim i [ inl e ↦ subst (λ (q : ReadExpr ℕ). q.instance < n) e h | inr j ↦ s.inside p j ];
-  }
-
-  value_same : (row : ℕ) → row < n → (e : Expr) → SameReadExprs (record { instance = row; right = e; assigned = false; after_step = false } ∷ []) (record { instance = instance_at table row; right = e; assigned = false; after_step = false } ∷ [])
-  value_same row h e = record { same = refl; inside = λ p i. elim i [ inl f ↦ subst (λ (q : ReadExpr ℕ). q.instance < n) f h | inr j ↦ absurd j ] }
+  read_same : (row : ℕ) → row < n → (e : Expr) (assigned : Bool) → SameReadExprs (read_now row e assigned ∷ []) (read_now (instance_at table row) e assigned ∷ [])
+  read_same row h e assigned = record { same = refl; inside = λ p i. elim i [ inl f ↦ subst (λ (q : ReadExpr ℕ). q.instance < n) f h | inr j ↦ absurd j ] }
 
   none_same : SameReadExprs [] []
   none_same = record { same = refl; inside = λ p i. absurd i }
 
-  section_same : (row : ℕ) → row < n → (s : Section) → SameReadExprs (section_exprs row s) (section_exprs (instance_at table row) s)
-  section_same row h (section.Vars ds) = none_same
-  section_same row h (section.Assigns xs) = assigned_same row h xs
-  section_same row h (section.Defines ds) = none_same
-  section_same row h (section.Init e at) = value_same row h e
-  section_same row h (section.Invar e at) = value_same row h e
-  section_same row h (section.Trans e at) = value_same row h e
-  section_same row h (section.InvarSpec e at) = value_same row h e
+  item_same : (row : ℕ) → row < n → (item : Item) → SameReadExprs (item_exprs row item) (item_exprs (instance_at table row) item)
+  item_same row h (Declares name what at) = none_same
+  item_same row h (Assigns left name right at) = read_same row h right true
+  item_same row h (Defines name right at) = none_same
+  item_same row h (Constrains r e at) = read_same row h e false
 
-  sections_same : (row : ℕ) → row < n → (ss : List Section) → SameReadExprs (flat_map (section_exprs row) ss) (flat_map (section_exprs (instance_at table row)) ss)
-  sections_same row h [] = none_same
-  sections_same row h (s ∷ ss) = exprs_joined _ _ _ _ (section_same row h s) (sections_same row h ss)
+  items_same : (row : ℕ) → row < n → (items : List Item) → SameReadExprs (flat_map (item_exprs row) items) (flat_map (item_exprs (instance_at table row)) items)
+  items_same row h [] = none_same
+  items_same row h (item ∷ items) = exprs_joined _ _ _ _ (item_same row h item) (items_same row h items)
 
-  items_same : (order : List ℕ) → ((row : ℕ) → In row order → row < n) → SameReadExprs (table_exprs program table order) (item_exprs (sections_at program) (map (instance_at table) order))
-  items_same [] h = none_same
-  items_same (row ∷ order) h = exprs_joined _ _ _ _ (sections_same row (h row (inl refl)) (sections_at program (instance_at table row))) (items_same order (λ r i. h r (inr i)))
+  rows_same : (order : List ℕ) → ((row : ℕ) → In row order → row < n) → SameReadExprs (table_exprs program table order) (instance_exprs (items_at program) (map (instance_at table) order))
+  rows_same [] h = none_same
+  rows_same (row ∷ order) h = exprs_joined _ _ _ _ (items_same row (h row (inl refl)) (items_at program (instance_at table row))) (rows_same order (λ r i. h r (inr i)))
 
   -- ---- reachable shared nodes
 
@@ -325,7 +313,7 @@ module _ (program : Program) (table : InstanceTable) (right : IsTableOfProgram p
 
   -- the count over the instances in their order
   pub table_count : (order : List ℕ) (count : ℕ) → AreRows table order → OneEach table →
-      IsCount solution (table_exprs program table order) count → IsCount model (item_exprs (sections_at program) (map (instance_at table) order)) count
+      IsCount solution (table_exprs program table order) count → IsCount model (instance_exprs (items_at program) (map (instance_at table) order)) count
   table_count order count rows one c =
-      let items = items_same order (λ row i. all_in (λ (k : ℕ). k < n) order row rows i) in
+      let items = rows_same order (λ row i. all_in (λ (k : ℕ). k < n) order row rows i) in
       subst (λ (ps : List (ReadExpr Instance)). IsCount model ps count) items.same (count_same (table_exprs program table order) items.inside one count c)

@@ -1,7 +1,7 @@
 -- The number of nodes is independent of the order in which shared nodes are counted.
 use Rattle.std.proofs.Common.{◌≡◌, ℕ, List, [], ◌∷◌, ◌++◌, ◌⊎◌, inl, inr, refl, sym, ap, ◌∙◌, subst, arith}
 use Rattle.std.specs.Option.{option_to_list}
-use Rattle.smv_kinds.proofs.MemberLemmas.{In, in_of}
+use Rattle.smv_meaning.proofs.MemberLemmas.{In, in_of}
 use Rattle.smv_nodes.specs.Own.{saturating_add}
 use Rattle.smv_nodes.specs.Count.{Lookup, ReadExpr, Shared, shared_expr, exprs_nodes, exprs_of_shared, IsCount}
 use Rattle.smv_nodes.proofs.CountLemmas.{exprs_append}

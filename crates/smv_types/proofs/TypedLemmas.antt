@@ -6,7 +6,8 @@ use Rattle.smv_meaning.specs.declared.table.Row.{Row}
 use Rattle.smv_meaning.specs.declared.table.InstanceTable.{InstanceTable}
 use Rattle.smv_meaning.specs.Instances.{Instance, instance_text, path_of, instances}
 use Rattle.smv_meaning.specs.Runs.{path_text}
-use Rattle.smv_meaning.specs.RunCheck.{sections_at, text_of_instance}
+use Rattle.smv_meaning.specs.ItemIndex.{items_at}
+use Rattle.smv_meaning.specs.RunCheck.{text_of_instance}
 use Rattle.smv_meaning.specs.Checking.{IsTableOfProgram, AreRows, instance_at}
 use Rattle.smv_meaning.specs.Valuation.{AreLinked, ArePathTexts}
 use Rattle.smv_meaning.proofs.RunLemmas.{instance_text_is}
@@ -24,7 +25,7 @@ use Rattle.std.specs.Prelude.{IfOk, Result, Ok, Err}
 use Rattle.smv_ast.specs.declared.fault.Fault.{Fault}
 use Rattle.fsmv_base.specs.declared.no_memory.NoMemory.{NoMemory}
 use Rattle.smv_kinds.specs.Soundness.{AreShaped, IsSound}
-use Rattle.smv_nodes.specs.Count.{of_program, item_exprs, program_exprs, IsCount, HasNodes}
+use Rattle.smv_nodes.specs.Count.{of_program, instance_exprs, program_exprs, IsCount, HasNodes}
 use Rattle.smv_nodes.specs.Held.{of_table, table_exprs}
 use Rattle.smv_types.specs.Checks.{text_fault, read_fault, AreApart, AreDotless, HaveDistinctTexts, IsNodes}
 use Rattle.smv_types.proofs.TextLemmas.{distinct_texts}
@@ -75,6 +76,6 @@ each_once program table order rows same count apart =
 pub counted : (program : Program) (table : InstanceTable) (order : List ℕ) (result : Result ℕ NoMemory) → IsTableOfProgram program table → AreRows table order → map (instance_at table) order ≡ instances program → OneEach table
     → IfOk result (λ n. IsCount (of_table table) (table_exprs program table order) n) → IfOk result (IsNodes program)
 counted program table order (Ok n) right rows same one h =
-    let has : HasNodes program n = subst (λ (row_instances : List Instance). IsCount (of_program program) (item_exprs (sections_at program) row_instances) n) same (table_count program table right order n rows one h) in
+    let has : HasNodes program n = subst (λ (row_instances : List Instance). IsCount (of_program program) (instance_exprs (items_at program) row_instances) n) same (table_count program table right order n rows one h) in
     record { has = has; only = λ m k. one_count (of_program program) (program_exprs program) m n k has }
 counted program table order (Err e) right rows same one h = h
