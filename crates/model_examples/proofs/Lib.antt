@@ -1,0 +1,5 @@
+pub mod FaultsOfReads
+pub mod FaultsOfText
+pub mod Nodes
+pub mod Operators
+pub mod Runs
