@@ -45,8 +45,10 @@ unfolding most is_within saturated hull
 own_cycle = refl
 
 -- `VAR c : m(c.d)` with `MODULE m(v) DEFINE d := v;`: the formal comes first, at the span of its module
-cycle_of_formal : cycles_fault (record { modules = main_of (instance 1 (codes "c") (codes "m") (dotted (codes "c") (codes "d") ∷ []) ∷ [])
-    ∷ module_of 9 (codes "m") (codes "v" ∷ []) (define 10 (codes "d") (name (codes "v")) ∷ []) ∷ [] }) ≡ Some (fault.CyclicDefine (Some (span 9)) (codes "c.v,c.d"))
+cycle_of_formal : cycles_fault (record {
+  modules = main_of (instance 1 (codes "c") (codes "m") (dotted (codes "c") (codes "d") ∷ []) ∷ [])
+      ∷ module_of 9 (codes "m") (codes "v" ∷ []) (define 10 (codes "d") (name (codes "v")) ∷ []) ∷ [];
+}) ≡ Some (fault.CyclicDefine (Some (span 9)) (codes "c.v,c.d"))
 unfolding most is_within saturated hull
 cycle_of_formal = refl
 

@@ -150,12 +150,14 @@ hidden = refl
 
 -- `MODULE m(v, k) VAR x : 0..9; DEFINE sum := v + k + x; INVAR sum < 9`, used in `main` as `c : m(y, 2)`
 abbrev adding : List Section → Program
-adding more = record { modules = main_of (var 1 (codes "y") (type.Range (pos 0) (pos 9)) ∷ instance 2 (codes "c") (codes "m") (y ∷ expr.Number 2 ∷ []) ∷ more)
-    ∷ module_of 9 (codes "m") (codes "v" ∷ codes "k" ∷ [])
-        (var 10 (codes "x") (type.Range (pos 0) (pos 9))
-        ∷ define 11 (codes "sum") (binary op.Add (binary op.Add (name (codes "v")) (name (codes "k"))) x)
-        ∷ section.Invar (binary op.Lt (name (codes "sum")) (expr.Number 9)) (span 12) ∷ [])
-    ∷ [] }
+adding more = record {
+  modules = main_of (var 1 (codes "y") (type.Range (pos 0) (pos 9)) ∷ instance 2 (codes "c") (codes "m") (y ∷ expr.Number 2 ∷ []) ∷ more)
+      ∷ module_of 9 (codes "m") (codes "v" ∷ codes "k" ∷ [])
+      (var 10 (codes "x") (type.Range (pos 0) (pos 9))
+      ∷ define 11 (codes "sum") (binary op.Add (binary op.Add (name (codes "v")) (name (codes "k"))) x)
+      ∷ section.Invar (binary op.Lt (name (codes "sum")) (expr.Number 9)) (span 12) ∷ [])
+      ∷ [];
+}
 
 -- `y` is 3, `k` is 2, and `c.x` is 3 and then 4
 formals : answer_of (adding []) (both (codes "y") (n 3) (codes "c.x") (n 3) ∷ both (codes "y") (n 3) (codes "c.x") (n 4) ∷ []) ≡ answer.Breaks 1 (span 12)
@@ -169,9 +171,11 @@ unfolding most
 definition_of_instance = refl
 
 -- `MODULE r(i) INVAR i.x = 5`, used as `d : r(c)`: an actual that stands for an instance
-through_formal : answer_of (record { modules = main_of (instance 1 (codes "c") (codes "m") [] ∷ instance 2 (codes "d") (codes "r") (name (codes "c") ∷ []) ∷ [])
-    ∷ module_of 8 (codes "m") [] (var 10 (codes "x") (type.Range (pos 0) (pos 9)) ∷ [])
-    ∷ module_of 9 (codes "r") (codes "i" ∷ []) (section.Invar (binary op.Eq (dotted (codes "i") (codes "x")) (expr.Number 5)) (span 12) ∷ []) ∷ [] })
+through_formal : answer_of (record {
+  modules = main_of (instance 1 (codes "c") (codes "m") [] ∷ instance 2 (codes "d") (codes "r") (name (codes "c") ∷ []) ∷ [])
+      ∷ module_of 8 (codes "m") [] (var 10 (codes "x") (type.Range (pos 0) (pos 9)) ∷ [])
+      ∷ module_of 9 (codes "r") (codes "i" ∷ []) (section.Invar (binary op.Eq (dotted (codes "i") (codes "x")) (expr.Number 5)) (span 12) ∷ []) ∷ [];
+})
     (state (codes "c.x") (n 5) ∷ state (codes "c.x") (n 6) ∷ []) ≡ answer.Breaks 1 (span 12)
 unfolding most
 through_formal = refl
