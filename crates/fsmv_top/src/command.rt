@@ -105,7 +105,6 @@ fn planned<F: Files>(alloc: Global, words: &[String], files: &mut F) -> Result<P
 /// - `WriteFault`: a write failed, and the sink's count of faults rose. A prefix of the text was
 ///   written.
 /// - `NoMemory`: nothing or a prefix of the text was written.
-#[tactic(auto, using(crate::proofs::OneAnswer::never_both, crate::proofs::OneAnswer::one_text))]
 pub fn run<F: Files, S: Sink>(alloc: Global, words: &[String], files: &mut F, out: &mut S) -> Status
     requires { (w : Weaves (map string_bytes words.now)) → IsTrue (F.may_read files.old w.base)
         × IsTrue (F.may_read files.old w.feature) }

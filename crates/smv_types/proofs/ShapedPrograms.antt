@@ -66,7 +66,11 @@ exprs_plain item none (e ∷ actuals) r c =
 
 -- the choices of an item without a broken rule are where they may be
 item_shaped : (item : Item) → KeepsItem item → is_shaped item ≡ true
-item_shaped (Declares name what at) k = exprs_plain (Declares name what at) refl (declared_exprs what) (neither _ _ k.ranges).1 (neither _ _ k.choices).1
+item_shaped (Declares name what at) k =
+    let item = Declares name what at in
+    let a = neither (rules.type_breaks rule.Ranges item) (list_any (rules.expr_breaks rule.Ranges item) (declared_exprs what)) k.ranges in
+    let b = neither (rules.type_breaks rule.Choices item) (list_any (rules.expr_breaks rule.Choices item) (declared_exprs what)) k.choices in
+    exprs_plain item refl (declared_exprs what) a.1 b.1
 item_shaped (Assigns left name right at) k = free_of right (neither (has_empty right) false k.ranges).0 (neither (has_stray_choice right true) false k.choices).0
 item_shaped (Defines name right at) k = exprs_plain (Defines name right at) refl (right ∷ []) k.ranges k.choices
 item_shaped (Constrains r e at) k = exprs_plain (Constrains r e at) refl (e ∷ []) k.ranges k.choices

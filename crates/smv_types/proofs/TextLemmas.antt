@@ -12,7 +12,7 @@ use Rattle.smv_meaning.specs.Runs.{VariableAt, variable_of, variables, path_text
 use Rattle.smv_names.specs.Duplicates.{duplicate_fault}
 use Rattle.smv_names.specs.Sets.{no_name}
 use Rattle.smv_names.specs.NamesFault.{names_fault, module_fault, instance_fault}
-use Rattle.smv_kinds.proofs.MemberLemmas.{In, all_in, from_map, from_flat, inner_is, outer_in}
+use Rattle.smv_meaning.proofs.MemberLemmas.{In, all_in, from_map, from_flat, inner_is, outer_in}
 use Rattle.smv_types.specs.Checks.{has_dot, AreDotless, HaveDistinctTexts}
 use Rattle.smv_types.proofs.Shaped.{neither}
 use Rattle.smv_types.proofs.ShapedPrograms.{neither_found}

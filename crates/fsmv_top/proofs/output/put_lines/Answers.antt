@@ -16,7 +16,7 @@ loop-tail-preserved g c =
       shorter = shorter text tail line more c.loop-tail.invariant.left split;
       left = more_left text tail line more c.loop-tail.invariant.left split;
       content = line_written text tail line more c.loop-tail.invariant.left split _ _ _ c.loop-tail.invariant.content c.in_ok-put.ensures.ok;
-      tells = c.put.ensures.tells ∙ c.loop-tail.invariant.tells;
+      given_stays = c.put.ensures.given_stays ∙ c.loop-tail.invariant.given_stays;
       faults = omega arith;
     }
 

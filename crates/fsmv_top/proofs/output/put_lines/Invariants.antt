@@ -10,7 +10,7 @@ invariant-loop-tail g l =
       shorter : length l.tail ≤ length l.fn.text;
       left : l.tail ≡ drop written l.fn.text;
       content : sink.content l.out ≡ with_piece (sink.content l.fn.out) (take written l.fn.text);
-      tells : is_some (sink.content l.out) ≡ is_some (sink.content l.fn.out);
+      given_stays : is_some (sink.content l.out) ≡ is_some (sink.content l.fn.out);
       faults : sink.faults l.fn.out ≤ sink.faults l.out;
     }
 
