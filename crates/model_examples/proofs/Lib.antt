@@ -1,5 +1,3 @@
-pub mod FaultsOfReads
-pub mod FaultsOfText
+pub mod FaultsOfDeclarations
 pub mod Nodes
 pub mod Operators
-pub mod Runs

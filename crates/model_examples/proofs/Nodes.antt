@@ -1,68 +1,71 @@
--- The nodes of expressions by themselves, names aside: as a value, and as the right side of an assignment.
-use Rattle.std.proofs.Common.{◌≡◌, ℕ, [], ◌∷◌, ◌×◌, refl}
+-- The nodes of expressions by themselves, names aside, layer by layer: as a value, and as the right side of an assignment.
+use Rattle.std.proofs.Common.{◌≡◌, ℕ, List, [], ◌∷◌, refl}
 use Rattle.std.specs.Prelude.{pos, codes}
 use Rattle.smv_ast.specs.declared.syntax.Op.{Op}
 use Rattle.smv_ast.specs.declared.syntax.Op.TheVariants as op
-use Rattle.smv_ast.specs.declared.syntax.Expr.{Expr}
-use Rattle.smv_ast.specs.declared.syntax.Expr.TheVariants as expr
-use Rattle.smv_ast.specs.declared.syntax.Choice.TheVariants as choice
-use Rattle.smv_nodes.specs.Own.{nodes_of}
-use Rattle.model_examples.specs.Building.{name, binary, branch}
+use Rattle.smv_ast.specs.declared.syntax.Expr.{Expr-F}
+use Rattle.smv_ast.specs.declared.syntax.Choice.{Choice-F}
+use Rattle.smv_ast.specs.IgnoringSpans.{no_span}
+use Rattle.smv_nodes.specs.declared.own.Nodes.{Nodes}
+use Rattle.smv_nodes.specs.Own.{expr_layer, choice_layer}
 
-abbrev x : Expr
-x = name (codes "x")
+abbrev x : Nodes
+x = expr_layer (Expr-F.Name (record { names = codes "x" ∷ []; at = no_span }))
 
-abbrev count : Expr → ℕ
-count e = (nodes_of e).value
+abbrev numeral : ℕ → Nodes
+numeral k = expr_layer (Expr-F.Number k)
 
-abbrev count_right : Expr → ℕ
-count_right e = (nodes_of e).right
+abbrev binary : Op → Nodes → Nodes → Nodes
+binary o a b = expr_layer (Expr-F.Binary o a b)
 
--- the nodes of an operator between two names
-abbrev between_names : Op → ℕ
-between_names o = count (binary o x x)
+abbrev either : List Nodes → Nodes
+either parts = choice_layer (Choice-F.Each parts)
 
-one_node : between_names op.And ≡ 1
+-- an operator between two names
+one_node : (binary op.And x x).value ≡ 1
 one_node = refl
 
--- `!=` is the Not of an Eq, `->` the Or of a Not
-unequal : between_names op.Ne ≡ 2
-unequal = refl
-
-implies : between_names op.Implies ≡ 2
-implies = refl
-
-iff : between_names op.Iff ≡ 2
-iff = refl
-
-greater : between_names op.Gt ≡ 1
+greater : (binary op.Gt x x).value ≡ 1
 greater = refl
 
+-- `!=` is the Not of an Eq, `->` the Or of a Not, `<->` and `xnor` the Not of a Xor
+unequal : (binary op.Ne x x).value ≡ 2
+unequal = refl
+
+implies : (binary op.Implies x x).value ≡ 2
+implies = refl
+
+iff : (binary op.Iff x x).value ≡ 2
+iff = refl
+
+xnor : (binary op.Xnor x x).value ≡ 2
+xnor = refl
+
 -- `x + 1` has a constant and a sum; as a right side the Eq with the variable too
-sum : count (binary op.Add x (expr.Number 1)) ≡ 2
+sum : (binary op.Add x (numeral 1)).value ≡ 2
 sum = refl
 
-sum_assigned : count_right (binary op.Add x (expr.Number 1)) ≡ 3
+sum_assigned : (binary op.Add x (numeral 1)).right ≡ 3
 sum_assigned = refl
 
 -- `-x` is `0 - x`
-opposite : count (expr.Neg x) ≡ 2
+opposite : (expr_layer (Expr-F.Neg x)).value ≡ 2
 opposite = refl
 
 -- `x in {1, 2, 3}`: three constants, three Eq, two Or; `x in 1..3`: two constants, two Le, an And
-set : count (expr.Within x (choice.Each (expr.Number 1 ∷ expr.Number 2 ∷ expr.Number 3 ∷ []))) ≡ 8
+set : (expr_layer (Expr-F.Within x (either (numeral 1 ∷ numeral 2 ∷ numeral 3 ∷ [])))).value ≡ 8
 set = refl
 
-interval : count (expr.Within x (choice.Between (pos 1) (pos 3))) ≡ 5
+interval : (expr_layer (Expr-F.Within x (choice_layer (Choice-F.Between (pos 1) (pos 3))))).value ≡ 5
 interval = refl
 
--- `case x : 1; x : 2; esac`: two constants and one Choose; the last condition is not read
-case : count (expr.Cases (branch x (expr.Number 1) ∷ branch (expr.Not x) (expr.Number 2) ∷ [])) ≡ 3
-case = refl
+-- `case x : 1; !x : 2; esac`: two constants and one Choose; the last condition is not read
+case_of_two : (expr_layer (Expr-F.Cases ((x, numeral 1) ∷ (expr_layer (Expr-F.Not x), numeral 2) ∷ []))).value ≡ 3
+case_of_two = refl
 
-case_assigned : count_right (expr.Cases (branch x (expr.Number 1) ∷ branch (expr.Not x) (expr.Number 2) ∷ [])) ≡ 4
+case_assigned : (expr_layer (Expr-F.Cases ((x, numeral 1) ∷ (expr_layer (Expr-F.Not x), numeral 2) ∷ []))).right ≡ 4
 case_assigned = refl
 
--- `case x : {1, 2}; TRUE : 3; esac` as a right side: the set two constants, two Eq, an Or; `3` a constant and an Eq; one Choose
-case_with_choice : count_right (expr.Cases (branch x (expr.Pick (choice.Each (expr.Number 1 ∷ expr.Number 2 ∷ []))) ∷ branch expr.True (expr.Number 3) ∷ [])) ≡ 8
+-- `case x : {1, 2}; TRUE : 3; esac` as a right side: of the set two constants, two Eq and an Or, of `3` a constant and an Eq, and one Choose
+case_with_choice : (expr_layer (Expr-F.Cases ((x, expr_layer (Expr-F.Pick (either (numeral 1 ∷ numeral 2 ∷ [])))) ∷ (expr_layer Expr-F.True, numeral 3) ∷ []))).right ≡ 8
 case_with_choice = refl

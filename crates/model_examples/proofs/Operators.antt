@@ -1,16 +1,15 @@
 -- The operators on values: a truth table for each on truth values, and small numbers for the others.
-use Rattle.std.proofs.Common.{◌≡◌, Bool, true, false, List, [], ◌∷◌, Option, Some, None, refl}
+use Rattle.std.proofs.Common.{◌≡◌, ℕ, Bool, true, false, List, [], ◌∷◌, Option, Some, None, refl}
 use Rattle.std.specs.Prelude.{ℤ, pos, negsuc, codes}
 use Rattle.smv_ast.specs.declared.syntax.Op.{Op}
 use Rattle.smv_ast.specs.declared.syntax.Op.TheVariants as op
-use Rattle.smv_ast.specs.declared.syntax.Expr.{Expr}
-use Rattle.smv_ast.specs.declared.syntax.Expr.TheVariants as expr
-use Rattle.smv_ast.specs.declared.syntax.Choice.TheVariants as choice
+use Rattle.smv_ast.specs.declared.syntax.Expr.{Expr-F}
+use Rattle.smv_ast.specs.declared.syntax.Choice.{Choice-F}
+use Rattle.smv_ast.specs.IgnoringSpans.{no_span}
 use Rattle.smv_meaning.specs.declared.value.Value.{Value}
 use Rattle.smv_meaning.specs.declared.value.Value.TheVariants.{Boolean, Number, Symbol}
 use Rattle.smv_meaning.specs.Value.{operate, negated, logical_not}
-use Rattle.smv_meaning.specs.Denotations.{Environment, denotation_of}
-use Rattle.model_examples.specs.Building.{name, binary, branch}
+use Rattle.smv_meaning.specs.Denotations.{Environment, Denotation, BranchDenotation, Allowed, expr_denotation, choice_denotation}
 
 -- the results on TRUE and TRUE, TRUE and FALSE, FALSE and TRUE, FALSE and FALSE
 abbrev table : Op → List (Option Value)
@@ -144,48 +143,63 @@ other_symbols = refl
 symbol_is_no_truth : operate op.Or (Symbol (codes "up")) (Boolean true) ≡ None
 symbol_is_no_truth = refl
 
--- ---- expressions, where each name has one number now and another after the step
+-- ---- expressions, layer by layer, where each name has one number now and another after the step
 
 abbrev each : ℤ → Environment
 each n path = Some (Number n)
 
 -- the value where each name is 3 now and 5 after the step
-abbrev value_of : Expr → Option Value
-value_of e = (denotation_of e).value (each (pos 3)) (each (pos 5))
+abbrev value_of : Denotation → Option Value
+value_of e = e.value (each (pos 3)) (each (pos 5))
 
-abbrev x : Expr
-x = name (codes "x")
+abbrev x : Denotation
+x = expr_denotation (Expr-F.Name (record { names = codes "x" ∷ []; at = no_span }))
+
+abbrev numeral : ℕ → Denotation
+numeral k = expr_denotation (Expr-F.Number k)
+
+abbrev binary : Op → Denotation → Denotation → Denotation
+binary o a b = expr_denotation (Expr-F.Binary o a b)
+
+abbrev next : Denotation → Denotation
+next a = expr_denotation (Expr-F.Next a)
+
+abbrev branch : Denotation → Denotation → BranchDenotation
+branch cond value = record { cond = cond; value = value }
+
+abbrev either : List Denotation → Allowed
+either parts = choice_denotation (Choice-F.Each parts)
+
+abbrev from_to : ℤ → ℤ → Allowed
+from_to low high = choice_denotation (Choice-F.Between low high)
 
 -- `x in {1, 3}`, `x in {1, 4}`, `x in 2..4`, `x in 4..6`
-in_set : value_of (expr.Within x (choice.Each (expr.Number 1 ∷ expr.Number 3 ∷ []))) ≡ Some (Boolean true)
+in_set : value_of (expr_denotation (Expr-F.Within x (either (numeral 1 ∷ numeral 3 ∷ [])))) ≡ Some (Boolean true)
 in_set = refl
 
-not_in_set : value_of (expr.Within x (choice.Each (expr.Number 1 ∷ expr.Number 4 ∷ []))) ≡ Some (Boolean false)
+not_in_set : value_of (expr_denotation (Expr-F.Within x (either (numeral 1 ∷ numeral 4 ∷ [])))) ≡ Some (Boolean false)
 not_in_set = refl
 
-in_interval : value_of (expr.Within x (choice.Between (pos 2) (pos 4))) ≡ Some (Boolean true)
+in_interval : value_of (expr_denotation (Expr-F.Within x (from_to (pos 2) (pos 4)))) ≡ Some (Boolean true)
 in_interval = refl
 
-not_in_interval : value_of (expr.Within x (choice.Between (pos 4) (pos 6))) ≡ Some (Boolean false)
+not_in_interval : value_of (expr_denotation (Expr-F.Within x (from_to (pos 4) (pos 6)))) ≡ Some (Boolean false)
 not_in_interval = refl
 
 -- `next(x) - x`, `next(x in 4..6)`, `-next(x)`
-step : value_of (binary op.Sub (expr.Next x) x) ≡ Some (Number (pos 2))
+step : value_of (binary op.Sub (next x) x) ≡ Some (Number (pos 2))
 step = refl
 
-next_of_whole : value_of (expr.Next (expr.Within x (choice.Between (pos 4) (pos 6)))) ≡ Some (Boolean true)
+next_of_whole : value_of (next (expr_denotation (Expr-F.Within x (from_to (pos 4) (pos 6))))) ≡ Some (Boolean true)
 next_of_whole = refl
 
-opposite_of_next : value_of (expr.Neg (expr.Next x)) ≡ Some (Number (negsuc 4))
+opposite_of_next : value_of (expr_denotation (Expr-F.Neg (next x))) ≡ Some (Number (negsuc 4))
 opposite_of_next = refl
 
--- `case x = 1 : 10; x = 3 : 20; TRUE : 30; esac`, and a case whose last branch is taken though its condition is false
-middle_branch : value_of (expr.Cases (branch (binary op.Eq x (expr.Number 1)) (expr.Number 10) ∷ branch (binary op.Eq x (expr.Number 3)) (expr.Number 20) ∷ branch expr.True (expr.Number 30) ∷ [])) ≡ Some (Number (pos 20))
+-- `case x = 1 : 10; x = 3 : 20; TRUE : 30; esac`
+middle_branch : value_of (expr_denotation (Expr-F.Cases (branch (binary op.Eq x (numeral 1)) (numeral 10) ∷ branch (binary op.Eq x (numeral 3)) (numeral 20) ∷ branch (expr_denotation Expr-F.True) (numeral 30) ∷ []))) ≡ Some (Number (pos 20))
 middle_branch = refl
 
-last_branch : value_of (expr.Cases (branch (binary op.Eq x (expr.Number 1)) (expr.Number 10) ∷ branch expr.False (expr.Number 20) ∷ [])) ≡ Some (Number (pos 20))
-last_branch = refl
-
 -- a choice has no value
-no_value : value_of (expr.Pick (choice.Each (expr.Number 1 ∷ []))) ≡ None
+no_value : value_of (expr_denotation (Expr-F.Pick (either (numeral 1 ∷ [])))) ≡ None
 no_value = refl

@@ -1,22 +1,13 @@
--- Short constructors of models. Each item has the span of its number; expressions have none.
-use Rattle.std.specs.Prelude.{ℕ, ℤ, List, [], ◌∷◌, codes}
+-- Short constructors of models of declarations. Each declaration and module has the span of its number.
+use Rattle.std.specs.Prelude.{ℕ, List, [], ◌∷◌, codes}
 use Rattle.smv_ast.specs.declared.syntax.Span.{Span}
 use Rattle.smv_ast.specs.declared.syntax.Expr.{Expr}
-use Rattle.smv_ast.specs.declared.syntax.Expr.TheVariants as expr
-use Rattle.smv_ast.specs.declared.syntax.Op.{Op}
-use Rattle.smv_ast.specs.declared.syntax.Branch.{Branch}
 use Rattle.smv_ast.specs.declared.syntax.SmvType.{SmvType}
 use Rattle.smv_ast.specs.declared.program.Declared.TheVariants as declared
-use Rattle.smv_ast.specs.declared.program.Declaration.{Declaration}
-use Rattle.smv_ast.specs.declared.program.Assignment.{Assignment}
-use Rattle.smv_ast.specs.declared.program.Definition.{Definition}
-use Rattle.smv_ast.specs.declared.program.Left.{Left}
-use Rattle.smv_ast.specs.declared.program.Left.TheVariants as left
 use Rattle.smv_ast.specs.declared.program.Section.{Section}
 use Rattle.smv_ast.specs.declared.program.Section.TheVariants as section
 use Rattle.smv_ast.specs.declared.program.Module.{Module}
 use Rattle.smv_ast.specs.declared.program.Program.{Program}
-use Rattle.smv_ast.specs.IgnoringSpans.{no_span}
 use Rattle.smv_meaning.specs.Value.{Name}
 
 -- the span of the item with this number
@@ -25,19 +16,13 @@ span n = record { file = 0; at = n }
 
 -- a variable of this type
 abbrev pub var : ℕ → Name → SmvType → Section
-var n name type = section.Vars (record { name = name; what = declared.Plain type; at = span n } ∷ [])
+var n name type = section.Vars
+    (record { name = name; what = declared.Plain type; at = span n } ∷ [])
 
 -- an instance of a module with these actuals
 abbrev pub instance : ℕ → Name → Name → List Expr → Section
 instance n name called actuals = section.Vars
     (record { name = name; what = declared.Instance called actuals; at = span n } ∷ [])
-
-abbrev pub define : ℕ → Name → Expr → Section
-define n name right = section.Defines (record { name = name; right = right; at = span n } ∷ [])
-
-abbrev pub assign : ℕ → Left → Name → Expr → Section
-assign n l name right = section.Assigns
-    (record { left = l; name = name; right = right; at = span n } ∷ [])
 
 abbrev pub module_of : ℕ → Name → List Name → List Section → Module
 module_of n name formals sections = record
@@ -49,18 +34,3 @@ main_of sections = module_of 0 (codes "main") [] sections
 -- a model of one module
 abbrev pub model : List Section → Program
 model sections = record { modules = main_of sections ∷ [] }
-
--- a name of one identifier, and a path of two
-abbrev pub name : Name → Expr
-name n = expr.Name (record { names = n ∷ []; at = no_span })
-
-abbrev pub dotted : Name → Name → Expr
-dotted m n = expr.Name (record { names = m ∷ n ∷ []; at = no_span })
-
--- a binary operation
-abbrev pub binary : Op → Expr → Expr → Expr
-binary op a b = expr.Binary op a b
-
--- a branch of a case
-abbrev pub branch : Expr → Expr → Branch
-branch cond value = record { cond = cond; value = value }
