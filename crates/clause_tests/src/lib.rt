@@ -2,10 +2,6 @@
 #![tactic(auto)]
 
 #[cfg(test)]
-mod analysis;
-#[cfg(test)]
-mod arena;
-#[cfg(test)]
 mod checker;
 #[cfg(test)]
 mod gates;
