@@ -9,7 +9,7 @@ use sat_lits::Lit;
 /// How many positions are stepped over at once, where none of them is marked.
 const BLOCK: usize = 64;
 
-/// Which entries of a trail are marked, by their positions. Where an entry stands is told by a table of
+/// Which entries of a trail are marked, by their positions. Where an entry stands is read from a table of
 /// positions, by variables.
 #[derive(Drop)]
 pub struct Marks {
