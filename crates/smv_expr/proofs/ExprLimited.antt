@@ -171,7 +171,7 @@ all_always : {A : Type 0} (items : List A) → true ≡ all_pass always_fits ite
 all_always [] = refl
 all_always (a ∷ items) = all_always items
 
-dotted_names_obeys : {any : Bool} → Obeys any always_fits read_dotted_names read_dotted_names
+pub dotted_names_obeys : {any : Bool} → Obeys any always_fits read_dotted_names read_dotted_names
 unfolding read_dotted_names
 dotted_names_obeys = retested (all_pass always_fits) always_fits all_always (many_obeys (k.Dot ∷ []) dotted_obeys)
 

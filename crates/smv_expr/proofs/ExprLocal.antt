@@ -96,9 +96,13 @@ dotted_first : Consumes r.read_dotted
 unfolding r.read_dotted
 dotted_first = mapped_consumes _ (word_first k.Dot name_local)
 
+pub dotted_names_local : Local r.read_dotted_names
+unfolding r.read_dotted_names
+dotted_names_local = many_local (k.Dot ∷ []) dotted_first dotted_local
+
 path_local : (ok : Bool) → Local (r.read_path ok)
-unfolding r.read_path r.read_first_name r.read_dotted_names
-path_local ok = mapped_local _ (both_local (allowed_local ok Deep (k.Name ∷ []) name_local) (many_local (k.Dot ∷ []) dotted_first dotted_local))
+unfolding r.read_path r.read_first_name
+path_local ok = mapped_local _ (both_local (allowed_local ok Deep (k.Name ∷ []) name_local) dotted_names_local)
 
 -- ---- expressions, from readers of those one level deeper
 

@@ -32,7 +32,7 @@ use Rattle.smv_expr.proofs.Words.{always, is_barred, tok, tok_name, tok_digits, 
 
 -- ---- with what each level goes on
 
-abbrev follow_path : List Kind
+abbrev pub follow_path : List Kind
 follow_path = k.Dot ∷ []
 
 abbrev pub follow_unary : List Kind
@@ -390,7 +390,7 @@ module _ {limit : ℕ} where
   unfolding read_dotted
   dotted_rule = map _ (after k.Dot tok_name)
 
-  dotted_names_rule : Rule limit (λ m. many g.dotted) (always follow_path) read_dotted_names
+  pub dotted_names_rule : Rule limit (λ m. many g.dotted) (always follow_path) read_dotted_names
   unfolding read_dotted_names same_kind
   dotted_names_rule = collect (k.Dot ∷ []) follow_path dotted_rule starts_dotted refl refl refl
 

@@ -109,11 +109,11 @@ keeps_either {A = A} {P = P} {L = L} {M = M} p q = record { at = go } where
 pub keeps_nothing : {A : Type 0} {P : A → Type 0} (v : A) → P v → Keeps P (nothing v)
 keeps_nothing {P = P} v p = record { at = λ a ts s h. subst P (sym h.0) p }
 
-abbrev IfSome : {A : Type 0} → (A → Type 0) → Option A → Type 0
+abbrev pub IfSome : {A : Type 0} → (A → Type 0) → Option A → Type 0
 IfSome P None = Unit {0}
 IfSome P (Some a) = P a
 
-keeps_opt : {A : Type 0} {P : A → Type 0} {L : A → Tokens → Type 0} → Keeps P L → Keeps (IfSome P) (opt L)
+pub keeps_opt : {A : Type 0} {P : A → Type 0} {L : A → Tokens → Type 0} → Keeps P L → Keeps (IfSome P) (opt L)
 keeps_opt p = keeps_either (keeps_mapped Some (λ a h. h) p) (keeps_nothing None tt)
 
 abbrev pub Each : {A : Type 0} → (A → Type 0) → List A → Type 0
@@ -162,7 +162,7 @@ each_true test (a ∷ items) h = both_true _ _ h.0 (each_true test items h.1)
 
 -- ---- which forms are printable
 
-p_true : is_printable e.True ≡ true
+pub p_true : is_printable e.True ≡ true
 unfolding X.roll-Expr roll
 p_true = fold-roll-Expr Bool Bool Bool choice_layer expr_layer branch_layer Expr-F.True
 

@@ -31,7 +31,8 @@ fn more_names(alloc: Global, tokens: &mut Cursor<'_>) -> Result<List<Text>, Read
     Ok(found)
 }
 
-fn with_first(alloc: Global, first: Text, more: List<Text>) -> Result<List<Text>, NoMemory>
+/// The first name, and the others after it.
+pub fn with_first(alloc: Global, first: Text, more: List<Text>) -> Result<List<Text>, NoMemory>
     ensures { IfOk result (λ all. all ≡ first ∷ more) }
 {
     let mut all = List::new(alloc);

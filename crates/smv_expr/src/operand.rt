@@ -2,7 +2,7 @@
 //!
 //! Where a tree ends with a token, `fits` says whether it is low enough to stand there.
 
-ghost use Rattle.std.specs.Prelude.{◌≡◌, ◌∷◌, true, false, IfOk};
+ghost use Rattle.std.specs.Prelude.{◌≡◌, true, false};
 ghost use Rattle.smv_expr.specs.Reading.{Gives};
 ghost use Rattle.smv_expr.specs.ExprReaders as spec;
 
@@ -10,7 +10,8 @@ use crate::cursor::Cursor;
 use crate::error::ReadError;
 use crate::kind::Kind;
 use crate::measured::Tree;
-use smv_ast::{List, NoMemory, Path, Span, Text};
+use crate::names::with_first;
+use smv_ast::{List, Path, Span, Text};
 use std::alloc::Global;
 
 /// The numeral with which a tree ends.
@@ -118,7 +119,8 @@ fn dotted(alloc: Global, tokens: &mut Cursor<'_>) -> Result<Text, ReadError>
     Ok(name)
 }
 
-fn dotted_names(alloc: Global, tokens: &mut Cursor<'_>) -> Result<List<Text>, ReadError>
+/// Each `.` that comes, and the name after it.
+pub fn dotted_names(alloc: Global, tokens: &mut Cursor<'_>) -> Result<List<Text>, ReadError>
     ensures { Gives (spec.read_dotted_names tokens.old) result tokens.new }
 {
     let mut found = List::new(alloc);
@@ -127,15 +129,6 @@ fn dotted_names(alloc: Global, tokens: &mut Cursor<'_>) -> Result<List<Text>, Re
         found.push(one)?;
     }
     Ok(found)
-}
-
-fn with_first(alloc: Global, first: Text, more: List<Text>) -> Result<List<Text>, NoMemory>
-    ensures { IfOk result (λ all. all ≡ first ∷ more) }
-{
-    let mut all = List::new(alloc);
-    all.push(first)?;
-    all.append(more)?;
-    Ok(all)
 }
 
 #[tactic(auto, unfolding(crate::specs::ExprReaders::read_first_name))]

@@ -34,7 +34,7 @@ pub name_in_parens_obeys : {any : Bool} → Obeys any always_fits r.read_name_in
 unfolding r.read_name_in_parens
 name_in_parens_obeys = mapped_obeys _ _ always_fits (λ v. refl) (word_then k.OpenParen (both_then name_obeys (word_obeys k.CloseParen)))
 
-left_side_obeys : {any : Bool} → Obeys any always_fits r.read_left_side r.read_left_side
+pub left_side_obeys : {any : Bool} → Obeys any always_fits r.read_left_side r.read_left_side
 unfolding r.read_left_side
 left_side_obeys =
     either_obeys (k.Init ∷ []) (mapped_obeys (g.side_of left.Init) _ always_fits (λ v. refl) (word_then k.Init name_in_parens_obeys)) (
@@ -54,7 +54,7 @@ enumeration_obeys : {any : Bool} → Obeys any always_fits (r.read_enumeration t
 unfolding r.read_enumeration r.read_values
 enumeration_obeys = mapped_obeys _ _ always_fits (λ v. refl) (word_then k.OpenBrace (both_then (either_obeys r.first_sign numbers_obeys (mapped_obeys type.Symbols _ always_fits (λ v. refl) names_obeys)) (word_obeys k.CloseBrace)))
 
-type_obeys : {any : Bool} → Obeys any always_fits (r.read_smv_type the_limit) (r.read_smv_type (AnyHeight any))
+pub type_obeys : {any : Bool} → Obeys any always_fits (r.read_smv_type the_limit) (r.read_smv_type (AnyHeight any))
 unfolding r.read_smv_type r.read_range
 type_obeys =
     either_obeys (k.Boolean ∷ []) (mapped_obeys _ _ always_fits (λ v. refl) (word_obeys k.Boolean)) (
@@ -139,7 +139,7 @@ parts_grow : (parts : Parts) (one : Part) → low_parts (g.with_part parts one) 
 parts_grow parts (part.Section s) = all_pushed low_section parts.sections s
 parts_grow parts (part.Skipped s) = sym (and_true (list_all low_section parts.sections))
 
-parts_obey : {any : Bool} → Obeys any low_parts (r.read_parts the_limit) (r.read_parts (AnyHeight any))
+pub parts_obey : {any : Bool} → Obeys any low_parts (r.read_parts the_limit) (r.read_parts (AnyHeight any))
 unfolding r.read_parts
 parts_obey = gather_obeys r.first_part g.with_part low_parts g.no_parts parts_grow refl part_obeys
 

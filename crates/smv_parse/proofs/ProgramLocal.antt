@@ -53,7 +53,7 @@ pub name_in_parens_local : Local r.read_name_in_parens
 unfolding r.read_name_in_parens
 name_in_parens_local = mapped_local _ (word_then_local k.OpenParen (both_local name_local (word_local k.CloseParen)))
 
-left_side_local : Local r.read_left_side
+pub left_side_local : Local r.read_left_side
 unfolding r.read_left_side
 left_side_local =
     either_local (k.Init ∷ []) (mapped_local (g.side_of left.Init) (word_then_local k.Init name_in_parens_local)) (
@@ -65,7 +65,7 @@ numbers_local : Local (r.read_numbers the_limit)
 unfolding r.read_numbers r.read_more_signs r.read_next_sign
 numbers_local = mapped_local _ (both_local (sign_local _ true) (many_local (k.Comma ∷ []) c.next_sign_consumes (mapped_local _ (word_then_local k.Comma (sign_local _ true)))))
 
-type_local : Local (r.read_smv_type the_limit)
+pub type_local : Local (r.read_smv_type the_limit)
 unfolding r.read_smv_type r.read_enumeration r.read_values r.read_range
 type_local =
     either_local (k.Boolean ∷ []) (mapped_local _ (word_local k.Boolean)) (
@@ -121,7 +121,7 @@ part_local : Local (r.read_part the_limit)
 unfolding r.read_part r.read_skipped
 part_local = either_local r.first_section (mapped_local part.Section section_local) (mapped_local part.Skipped (mapped_local _ (both_local skip_word_local skipped_text_local)))
 
-parts_local : Local (r.read_parts the_limit)
+pub parts_local : Local (r.read_parts the_limit)
 unfolding r.read_parts
 parts_local = fold_local r.first_part g.with_part g.no_parts c.part_consumes part_local
 

@@ -69,7 +69,7 @@ starts_left_side : Starts r.first_side (λ m. g.left_side)
 unfolding same_kind
 starts_left_side = starts_either (starts_more _ refl starts_init) (starts_either (starts_more _ refl starts_next) (starts_more _ refl starts_now))
 
-left_side_rule : Rule nesting_bound (λ m. g.left_side) (always []) r.read_left_side
+pub left_side_rule : Rule nesting_bound (λ m. g.left_side) (always []) r.read_left_side
 unfolding r.read_left_side same_kind
 left_side_rule =
     alt (k.Init ∷ []) [] (map _ (after k.Init name_in_parens_rule)) (
@@ -231,7 +231,7 @@ module _ (any : Bool) where
   unfolding same_kind
   starts_type = starts_either (starts_more _ refl starts_boolean) (starts_either (starts_more _ refl starts_enumeration) (starts_more _ refl starts_range))
 
-  type_rule : Rule nesting_bound (λ m. g.smv_type any) (always []) (r.read_smv_type (AnyHeight any))
+  pub type_rule : Rule nesting_bound (λ m. g.smv_type any) (always []) (r.read_smv_type (AnyHeight any))
   unfolding r.read_smv_type same_kind
   type_rule =
       alt (k.Boolean ∷ []) [] (map _ (tok k.Boolean)) (
@@ -404,7 +404,7 @@ module _ (any : Bool) where
   unfolding same_kind
   starts_part = starts_either (starts_more _ refl (starts_mapped part.Section starts_section)) (starts_more _ refl (starts_mapped part.Skipped starts_skipped))
 
-  parts_rule : Rule nesting_bound (At any g.all_parts) (always follow_parts) (r.read_parts (AnyHeight any))
+  pub parts_rule : Rule nesting_bound (At any g.all_parts) (always follow_parts) (r.read_parts (AnyHeight any))
   unfolding r.read_parts same_kind
   parts_rule = gather r.first_part follow_parts g.with_part g.no_parts part_rule starts_part refl refl refl
 

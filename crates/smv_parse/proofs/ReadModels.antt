@@ -53,14 +53,14 @@ keeps_formals = keeps_mapped _ (λ v h. h) (keeps_second (keeps_first (keeps_eit
 keeps_in_parens : Keeps (λ n. is_name n ≡ true) g.name_in_parens
 keeps_in_parens = keeps_mapped _ (λ v h. h) (keeps_second (keeps_first keeps_name))
 
-keeps_left_side : Keeps (λ s. is_name s.name ≡ true) g.left_side
+pub keeps_left_side : Keeps (λ s. is_name s.name ≡ true) g.left_side
 keeps_left_side = keeps_either (keeps_mapped (g.side_of left.Init) (λ v h. h) (keeps_second keeps_in_parens))
     (keeps_either (keeps_mapped (g.side_of left.Next) (λ v h. h) (keeps_second keeps_in_parens)) (keeps_mapped g.current_side_of (λ v h. h) keeps_name))
 
 keeps_numbers : Keeps (λ t. is_printable_type t ≡ true) (g.numbers false)
 keeps_numbers = keeps_mapped _ (λ v h. both_true _ _ h.0 (all_true is_small_sign v.1 h.1)) (keeps_both keeps_sign (keeps_many (keeps_mapped _ (λ v h. h) (keeps_second keeps_sign))))
 
-keeps_type : Keeps (λ t. is_printable_type t ≡ true) (g.smv_type false)
+pub keeps_type : Keeps (λ t. is_printable_type t ≡ true) (g.smv_type false)
 keeps_type = keeps_either (keeps_mapped _ (λ at h. refl) keeps_all) (keeps_either
     (keeps_mapped _ (λ v h. h) (keeps_second (keeps_first (keeps_either keeps_numbers (keeps_mapped type.Symbols (λ names h. h) keeps_names)))))
     (keeps_mapped _ (λ v h. both_true _ _ h.0 h.1) (keeps_both keeps_sign keeps_up_to)))
@@ -71,7 +71,7 @@ abbrev IsOkPart : Part → Type 0
 IsOkPart (part.Section s) = is_printable_section s ≡ true
 IsOkPart (part.Skipped s) = Unit {0}
 
-abbrev AreOk : Parts → Type 0
+abbrev pub AreOk : Parts → Type 0
 AreOk parts = all_are (map is_printable_section parts.sections) ≡ true
 
 with_ok : (parts : Parts) (one : Part) → AreOk parts → IsOkPart one → AreOk (g.with_part parts one)
@@ -114,7 +114,7 @@ module _ (W : Expr → Tokens → Type 0) (w : Keeps IsOk W) where
       keeps_either (keeps_mapped _ (λ v h. h) (keeps_constraint _)) (keeps_either (keeps_mapped _ (λ v h. h) (keeps_constraint _))
       (keeps_either (keeps_mapped _ (λ v h. h) (keeps_constraint _)) (keeps_mapped _ (λ v h. h) (keeps_constraint _)))))))
 
-  keeps_parts : Keeps AreOk (g.all_parts false W)
+  pub keeps_parts : Keeps AreOk (g.all_parts false W)
   keeps_parts = keeps_mapped g.parts_of (λ items h. folded AreOk IsOkPart g.with_part with_ok g.no_parts items refl h)
       (keeps_many (keeps_either (keeps_mapped part.Section (λ s h. h) keeps_section) (keeps_mapped part.Skipped (λ s h. tt) keeps_all)))
 

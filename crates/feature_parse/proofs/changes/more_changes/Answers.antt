@@ -1,0 +1,29 @@
+use Rattle.std.proofs.Common.{sym, ◌∙◌, [], ◌∷◌, arith, rules}
+use Rattle.std.proofs.lemmas.Grind.{common_steps}
+use Rattle.smv_expr.specs.declared.kind.Kind.TheVariants as k
+use Rattle.smv_expr.proofs.Rounds.{one_round, rounds_end}
+use Rattle.feature_parse.specs.Grammar.{with_module_changes}
+use Rattle.smv_parse.specs.Readers.{the_limit}
+use Rattle.feature_parse.specs.Readers.{read_module_changes, read_more_changes}
+use Rattle.feature_parse.proofs.FeatureLocal.{module_changes_consume}
+use Rattle.feature_parse.proofs.changes.more_changes.Goals as goal
+
+pub rounds-init : goal.rounds-init
+unfolding read_more_changes
+rounds-init c = search rules
+
+pub returns-in_err-one : goal.returns-in_err-one
+returns-in_err-one c =
+    let round = c.rounds.invariant ∙ one_round (k.Module ∷ []) (read_module_changes the_limit) with_module_changes module_changes_consume c.rounds.found c.rounds.tokens (sym c.sees.ensures ∙ c.rounds-test.true) in
+    first_of (search rules, grind (arith, common_steps))
+
+pub rounds-smaller : goal.rounds-smaller
+rounds-smaller c = module_changes_consume.less c.rounds.tokens c.in_ok-one.one _ c.in_ok-one.ensures
+
+pub rounds-preserved : goal.rounds-preserved
+rounds-preserved c =
+    let round = c.rounds.invariant ∙ one_round (k.Module ∷ []) (read_module_changes the_limit) with_module_changes module_changes_consume c.rounds.found c.rounds.tokens (sym c.sees.ensures ∙ c.rounds-test.true) in
+    first_of (search rules, grind (arith, common_steps))
+
+pub returns : goal.returns
+returns c = c.rounds.invariant ∙ rounds_end (k.Module ∷ []) (read_module_changes the_limit) with_module_changes c.rounds.found c.rounds.tokens (sym c.sees.ensures ∙ c.rounds-test.false)

@@ -1,0 +1,5 @@
+pub mod Grammar
+pub mod Readers
+pub mod Low
+pub mod Answer
+pub mod Printable

@@ -1,0 +1,9 @@
+//! Reads the texts of features, and says where a text leaves their grammar.
+#![tactic(auto)]
+
+mod changes;
+mod features;
+mod joins;
+mod needs;
+
+pub use features::{FeatureReading, read_features};
