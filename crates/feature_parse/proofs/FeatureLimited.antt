@@ -17,10 +17,10 @@ use Rattle.smv_expr.proofs.ExprAnswering.{limited_obeys}
 use Rattle.smv_expr.proofs.NameRules.{all_pushed, list_obeys, free_list, name_obeys, word_obeys}
 use Rattle.smv_parse.specs.Readers.{the_limit}
 use Rattle.smv_parse.proofs.ProgramLimited.{left_side_obeys, type_obeys, parts_obey}
-use Rattle.feature_parse.specs.declared.joins.JoinedReading.{JoinedReading}
-use Rattle.feature_parse.specs.declared.joins.JoinsReading.{JoinsReading}
+use Rattle.feature_parse.specs.declared.introduced.JoinedModule.{JoinedModule}
+use Rattle.feature_parse.specs.declared.introduced.IntroducedModules.{IntroducedModules}
 use Rattle.feature_parse.specs.declared.changes.ActionText.{ActionText}
-use Rattle.feature_parse.specs.declared.changes.GuardedActions.{GuardedActions}
+use Rattle.feature_parse.specs.declared.changes.ConditionalActions.{ConditionalActions}
 use Rattle.feature_parse.specs.declared.changes.ModuleChanges.{ModuleChanges}
 use Rattle.feature_parse.specs.declared.features.SingleFeature.{SingleFeature}
 use Rattle.feature_parse.specs.declared.features.FeatureReading.{FeatureReading}
@@ -56,24 +56,24 @@ some_needs_obey = either_obeys (k.Require ∷ [])
 
 -- ---- what is introduced
 
-abbrev low_joined_reading : JoinedReading → Bool
-low_joined_reading one = low_joined one.joined
+abbrev low_joined_module : JoinedModule → Bool
+low_joined_module one = low_joined one.joined
 
-abbrev low_joins : JoinsReading → Bool
-low_joins found = list_all low_joined found.joins
+abbrev low_introduced : IntroducedModules → Bool
+low_introduced found = list_all low_joined found.joins
 
-joined_obeys : {any : Bool} → Obeys any low_joined_reading (r.read_joined the_limit) (r.read_joined (AnyHeight any))
-unfolding r.read_joined
-joined_obeys = mapped_obeys g.joined_of _ low_joined_reading (λ v. refl) (word_then k.Module (both_then name_obeys parts_obey))
+joined_obeys : {any : Bool} → Obeys any low_joined_module (r.read_joined_module the_limit) (r.read_joined_module (AnyHeight any))
+unfolding r.read_joined_module
+joined_obeys = mapped_obeys g.joined_of _ low_joined_module (λ v. refl) (word_then k.Module (both_then name_obeys parts_obey))
 
-joins_grow : (found : JoinsReading) (one : JoinedReading) → low_joins (g.with_joined found one) ≡ (low_joins found && low_joined_reading one)
-joins_grow found one = all_pushed low_joined found.joins one.joined
+introduced_grow : (found : IntroducedModules) (one : JoinedModule) → low_introduced (g.with_joined found one) ≡ (low_introduced found && low_joined_module one)
+introduced_grow found one = all_pushed low_joined found.joins one.joined
 
-some_joins_obey : {any : Bool} → Obeys any low_joins (r.read_some_joins the_limit) (r.read_some_joins (AnyHeight any))
-unfolding r.read_some_joins r.read_joins r.read_more_joins
-some_joins_obey = either_obeys (k.Introduce ∷ [])
-    (mapped_obeys _ _ low_joins (λ v. refl) (word_then k.Introduce (gather_obeys (k.Module ∷ []) g.with_joined low_joins g.no_joins joins_grow refl joined_obeys)))
-    (nothing_obeys low_joins g.no_joins refl)
+some_introduced_obey : {any : Bool} → Obeys any low_introduced (r.read_some_introduced the_limit) (r.read_some_introduced (AnyHeight any))
+unfolding r.read_some_introduced r.read_introduced r.read_more_introduced
+some_introduced_obey = either_obeys (k.Introduce ∷ [])
+    (mapped_obeys _ _ low_introduced (λ v. refl) (word_then k.Introduce (gather_obeys (k.Module ∷ []) g.with_joined low_introduced g.no_introduced introduced_grow refl joined_obeys)))
+    (nothing_obeys low_introduced g.no_introduced refl)
 
 -- ---- actions under a condition
 
@@ -83,8 +83,8 @@ low_placed placed = low_action placed.action
 abbrev low_under : Bool → ActionText → Bool
 low_under low placed = low && low_placed placed
 
-abbrev low_guarded : GuardedActions → Bool
-low_guarded one = list_all (low_under (is_low one.cond)) one.actions
+abbrev low_conditional : ConditionalActions → Bool
+low_conditional one = list_all (low_under (is_low one.cond)) one.actions
 
 abbrev low_module_changes : ModuleChanges → Bool
 low_module_changes found = list_all low_change found.changes
@@ -122,20 +122,20 @@ action_obeys : {any : Bool} → Obeys any low_placed (r.read_action the_limit) (
 unfolding r.read_action
 action_obeys = either_obeys (k.Impose ∷ []) impose_obeys treat_obeys
 
-guarded_obeys : {any : Bool} → Obeys any low_guarded (r.read_guarded the_limit) (r.read_guarded (AnyHeight any))
-unfolding r.read_guarded r.read_more_actions
-guarded_obeys = mapped_obeys g.guarded_of _ low_guarded (λ v. one_condition (is_low v.1.0) v.1.1.1.0 v.1.1.1.1)
+conditional_obeys : {any : Bool} → Obeys any low_conditional (r.read_conditional the_limit) (r.read_conditional (AnyHeight any))
+unfolding r.read_conditional r.read_more_actions
+conditional_obeys = mapped_obeys g.conditional_of _ low_conditional (λ v. one_condition (is_low v.1.0) v.1.1.1.0 v.1.1.1.1)
     (word_then k.If (both_then (limited_obeys _) (word_then k.Then (both_then action_obeys (list_obeys r.first_action action_obeys)))))
 
-unguarded_obeys : {any : Bool} → Obeys any low_module_changes (r.read_unguarded the_limit) (r.read_unguarded (AnyHeight any))
-unfolding r.read_unguarded r.read_more_actions
-unguarded_obeys = mapped_obeys g.unguarded_of _ low_module_changes
+unconditional_obeys : {any : Bool} → Obeys any low_module_changes (r.read_unconditional the_limit) (r.read_unconditional (AnyHeight any))
+unfolding r.read_unconditional r.read_more_actions
+unconditional_obeys = mapped_obeys g.unconditional_of _ low_module_changes
     (λ v. changes_low v.1.0.0 e.True v.1.1 ∙ ap (λ low. list_all (low_under low) v.1.1) low_true)
     (word_then k.Module (both_then name_obeys (list_obeys r.first_action action_obeys)))
 
 module_changes_obey : {any : Bool} → Obeys any low_module_changes (r.read_module_changes the_limit) (r.read_module_changes (AnyHeight any))
-unfolding r.read_module_changes r.read_more_guarded
-module_changes_obey = gather_from_obeys (k.If ∷ []) g.with_guarded low_module_changes (λ found one. changes_grow found one.cond one.actions) unguarded_obeys guarded_obeys
+unfolding r.read_module_changes r.read_more_conditional
+module_changes_obey = gather_from_obeys (k.If ∷ []) g.with_conditional low_module_changes (λ found one. changes_grow found one.cond one.actions) unconditional_obeys conditional_obeys
 
 some_changes_obey : {any : Bool} → Obeys any (list_all low_change) (r.read_some_changes the_limit) (r.read_some_changes (AnyHeight any))
 unfolding r.read_some_changes r.read_changes r.read_more_changes
@@ -150,8 +150,8 @@ low_single one = low_feature one.feature
 
 feature_obeys : {any : Bool} → Obeys any low_single (r.read_feature the_limit) (r.read_feature (AnyHeight any))
 unfolding r.read_feature
-feature_obeys = mapped_obeys g.feature_of _ low_single (λ v. ap (λ low. low_joins v.1.1.1.0 && low) (sym (and_true (list_all low_change v.1.1.1.1.0))))
-    (word_then k.Feature (both_then name_obeys (both_then some_needs_obey (both_then some_joins_obey (both_then some_changes_obey (word_obeys k.End))))))
+feature_obeys = mapped_obeys g.feature_of _ low_single (λ v. ap (λ low. low_introduced v.1.1.1.0 && low) (sym (and_true (list_all low_change v.1.1.1.1.0))))
+    (word_then k.Feature (both_then name_obeys (both_then some_needs_obey (both_then some_introduced_obey (both_then some_changes_obey (word_obeys k.End))))))
 
 features_grow : (found : FeatureReading) (one : SingleFeature) → low_features (g.with_feature found one) ≡ (low_features found && low_single one)
 features_grow found one = all_pushed low_feature found.features one.feature

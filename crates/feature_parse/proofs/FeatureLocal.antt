@@ -55,17 +55,17 @@ some_needs_local = either_local (k.Require ∷ []) (mapped_local _ (word_then_lo
 
 -- ---- what is introduced
 
-joined_local : Local (r.read_joined the_limit)
-unfolding r.read_joined
+joined_local : Local (r.read_joined_module the_limit)
+unfolding r.read_joined_module
 joined_local = mapped_local g.joined_of (word_then_local k.Module (both_local name_local parts_local))
 
-pub joined_consumes : Consumes (r.read_joined the_limit)
-unfolding r.read_joined
+pub joined_consumes : Consumes (r.read_joined_module the_limit)
+unfolding r.read_joined_module
 joined_consumes = mapped_consumes g.joined_of (word_first k.Module (both_local name_local parts_local))
 
-some_joins_local : Local (r.read_some_joins the_limit)
-unfolding r.read_some_joins r.read_joins r.read_more_joins
-some_joins_local = either_local (k.Introduce ∷ []) (mapped_local _ (word_then_local k.Introduce (fold_local (k.Module ∷ []) g.with_joined g.no_joins joined_consumes joined_local))) (nothing_local g.no_joins)
+some_introduced_local : Local (r.read_some_introduced the_limit)
+unfolding r.read_some_introduced r.read_introduced r.read_more_introduced
+some_introduced_local = either_local (k.Introduce ∷ []) (mapped_local _ (word_then_local k.Introduce (fold_local (k.Module ∷ []) g.with_joined g.no_introduced joined_consumes joined_local))) (nothing_local g.no_introduced)
 
 -- ---- changes
 
@@ -89,29 +89,29 @@ more_actions_local : Local (r.read_more_actions the_limit)
 unfolding r.read_more_actions
 more_actions_local = many_local r.first_action action_consumes action_local
 
-guarded_local : Local (r.read_guarded the_limit)
-unfolding r.read_guarded
-guarded_local = mapped_local g.guarded_of (word_then_local k.If (both_local limited_local (word_then_local k.Then (both_local action_local more_actions_local))))
+conditional_local : Local (r.read_conditional the_limit)
+unfolding r.read_conditional
+conditional_local = mapped_local g.conditional_of (word_then_local k.If (both_local limited_local (word_then_local k.Then (both_local action_local more_actions_local))))
 
-pub guarded_consumes : Consumes (r.read_guarded the_limit)
-unfolding r.read_guarded
-guarded_consumes = mapped_consumes g.guarded_of (word_first k.If (both_local limited_local (word_then_local k.Then (both_local action_local more_actions_local))))
+pub conditional_consumes : Consumes (r.read_conditional the_limit)
+unfolding r.read_conditional
+conditional_consumes = mapped_consumes g.conditional_of (word_first k.If (both_local limited_local (word_then_local k.Then (both_local action_local more_actions_local))))
 
-unguarded_local : Local (r.read_unguarded the_limit)
-unfolding r.read_unguarded
-unguarded_local = mapped_local g.unguarded_of (word_then_local k.Module (both_local name_local more_actions_local))
+unconditional_local : Local (r.read_unconditional the_limit)
+unfolding r.read_unconditional
+unconditional_local = mapped_local g.unconditional_of (word_then_local k.Module (both_local name_local more_actions_local))
 
-unguarded_consumes : Consumes (r.read_unguarded the_limit)
-unfolding r.read_unguarded
-unguarded_consumes = mapped_consumes g.unguarded_of (word_first k.Module (both_local name_local more_actions_local))
+unconditional_consumes : Consumes (r.read_unconditional the_limit)
+unfolding r.read_unconditional
+unconditional_consumes = mapped_consumes g.unconditional_of (word_first k.Module (both_local name_local more_actions_local))
 
 module_changes_local : Local (r.read_module_changes the_limit)
-unfolding r.read_module_changes r.read_more_guarded
-module_changes_local = then_local unguarded_local (λ found. fold_local (k.If ∷ []) g.with_guarded found guarded_consumes guarded_local)
+unfolding r.read_module_changes r.read_more_conditional
+module_changes_local = then_local unconditional_local (λ found. fold_local (k.If ∷ []) g.with_conditional found conditional_consumes conditional_local)
 
 pub module_changes_consume : Consumes (r.read_module_changes the_limit)
-unfolding r.read_module_changes r.read_more_guarded
-module_changes_consume = first_consumes unguarded_consumes (λ found. fold_local (k.If ∷ []) g.with_guarded found guarded_consumes guarded_local)
+unfolding r.read_module_changes r.read_more_conditional
+module_changes_consume = first_consumes unconditional_consumes (λ found. fold_local (k.If ∷ []) g.with_conditional found conditional_consumes conditional_local)
 
 some_changes_local : Local (r.read_some_changes the_limit)
 unfolding r.read_some_changes r.read_changes r.read_more_changes
@@ -121,11 +121,11 @@ some_changes_local = either_local (k.Change ∷ []) (mapped_local _ (word_then_l
 
 feature_local : Local (r.read_feature the_limit)
 unfolding r.read_feature
-feature_local = mapped_local g.feature_of (word_then_local k.Feature (both_local name_local (both_local some_needs_local (both_local some_joins_local (both_local some_changes_local (word_local k.End))))))
+feature_local = mapped_local g.feature_of (word_then_local k.Feature (both_local name_local (both_local some_needs_local (both_local some_introduced_local (both_local some_changes_local (word_local k.End))))))
 
 pub feature_consumes : Consumes (r.read_feature the_limit)
 unfolding r.read_feature
-feature_consumes = mapped_consumes g.feature_of (word_first k.Feature (both_local name_local (both_local some_needs_local (both_local some_joins_local (both_local some_changes_local (word_local k.End))))))
+feature_consumes = mapped_consumes g.feature_of (word_first k.Feature (both_local name_local (both_local some_needs_local (both_local some_introduced_local (both_local some_changes_local (word_local k.End))))))
 
 pub features_local : Local (r.read_features the_limit)
 unfolding r.read_features

@@ -26,8 +26,8 @@ follow_module_needs = k.Var ∷ k.Name ∷ []
 abbrev follow_needs : List Kind
 follow_needs = k.Require ∷ k.Module ∷ follow_module_needs
 
-abbrev follow_joins : List Kind
-follow_joins = k.Introduce ∷ follow_program
+abbrev follow_introduced : List Kind
+follow_introduced = k.Introduce ∷ follow_program
 
 abbrev follow_module_changes : List Kind
 follow_module_changes = k.If ∷ r.first_action
@@ -102,25 +102,25 @@ module _ (any : Bool) where
 
   -- ---- what is introduced
 
-  joined_rule : Rule nesting_bound (At any g.joined) (always follow_parts) (r.read_joined (AnyHeight any))
-  unfolding r.read_joined
+  joined_rule : Rule nesting_bound (At any g.joined_module) (always follow_parts) (r.read_joined_module (AnyHeight any))
+  unfolding r.read_joined_module
   joined_rule = map g.joined_of (after k.Module (seq tok_name (parts_rule any) (leaves_all _ (always follow_parts))))
 
-  starts_joined : Starts (k.Module ∷ []) (At any g.joined)
+  starts_joined : Starts (k.Module ∷ []) (At any g.joined_module)
   unfolding same_kind
   starts_joined = starts_mapped _ (starts_dep _ (starts_word k.Module _ refl))
 
-  joins_rule : Rule nesting_bound (At any g.joins) (always follow_program) (r.read_joins (AnyHeight any))
-  unfolding r.read_joins r.read_more_joins same_kind
-  joins_rule = map _ (after k.Introduce (gather (k.Module ∷ []) follow_program g.with_joined g.no_joins joined_rule starts_joined refl refl refl))
+  introduced_rule : Rule nesting_bound (At any g.introduced) (always follow_program) (r.read_introduced (AnyHeight any))
+  unfolding r.read_introduced r.read_more_introduced same_kind
+  introduced_rule = map _ (after k.Introduce (gather (k.Module ∷ []) follow_program g.with_joined g.no_introduced joined_rule starts_joined refl refl refl))
 
-  starts_joins : Starts (k.Introduce ∷ []) (At any g.joins)
+  starts_introduced : Starts (k.Introduce ∷ []) (At any g.introduced)
   unfolding same_kind
-  starts_joins = starts_mapped _ (starts_dep _ (starts_word k.Introduce _ refl))
+  starts_introduced = starts_mapped _ (starts_dep _ (starts_word k.Introduce _ refl))
 
-  some_joins_rule : Rule nesting_bound (λ m. either (g.joins any (expr any m)) (nothing g.no_joins)) (always follow_joins) (r.read_some_joins (AnyHeight any))
-  unfolding r.read_some_joins same_kind
-  some_joins_rule = alt (k.Introduce ∷ []) follow_joins joins_rule (none (always []) g.no_joins) refl refl starts_joins (leaves_nothing g.no_joins _ _ refl)
+  some_introduced_rule : Rule nesting_bound (λ m. either (g.introduced any (expr any m)) (nothing g.no_introduced)) (always follow_introduced) (r.read_some_introduced (AnyHeight any))
+  unfolding r.read_some_introduced same_kind
+  some_introduced_rule = alt (k.Introduce ∷ []) follow_introduced introduced_rule (none (always []) g.no_introduced) refl refl starts_introduced (leaves_nothing g.no_introduced _ _ refl)
 
   -- ---- changes
 
@@ -152,23 +152,23 @@ module _ (any : Bool) where
   unfolding same_kind
   starts_action = starts_either (starts_more _ refl starts_impose) (starts_more _ refl starts_treat)
 
-  guarded_rule : Rule nesting_bound (At any g.guarded) (always r.first_action) (r.read_guarded (AnyHeight any))
-  unfolding r.read_guarded r.read_more_actions same_kind
-  guarded_rule = map g.guarded_of (after k.If (seq whole
+  conditional_rule : Rule nesting_bound (At any g.conditional) (always r.first_action) (r.read_conditional (AnyHeight any))
+  unfolding r.read_conditional r.read_more_actions same_kind
+  conditional_rule = map g.conditional_of (after k.If (seq whole
       (after k.Then (seq action_rule (collect r.first_action r.first_action action_rule starts_action refl refl refl) (leaves_all _ (always r.first_action))))
       (leaves_start follow_expr (always r.first_action) refl (starts_dep _ (starts_word k.Then (k.Then ∷ []) refl)))))
 
-  starts_guarded : Starts (k.If ∷ []) (At any g.guarded)
+  starts_conditional : Starts (k.If ∷ []) (At any g.conditional)
   unfolding same_kind
-  starts_guarded = starts_mapped _ (starts_dep _ (starts_word k.If _ refl))
+  starts_conditional = starts_mapped _ (starts_dep _ (starts_word k.If _ refl))
 
-  unguarded_rule : Rule nesting_bound (At any g.unguarded) (always r.first_action) (r.read_unguarded (AnyHeight any))
-  unfolding r.read_unguarded r.read_more_actions same_kind
-  unguarded_rule = map g.unguarded_of (after k.Module (seq tok_name (collect r.first_action r.first_action action_rule starts_action refl refl refl) (leaves_all _ (always r.first_action))))
+  unconditional_rule : Rule nesting_bound (At any g.unconditional) (always r.first_action) (r.read_unconditional (AnyHeight any))
+  unfolding r.read_unconditional r.read_more_actions same_kind
+  unconditional_rule = map g.unconditional_of (after k.Module (seq tok_name (collect r.first_action r.first_action action_rule starts_action refl refl refl) (leaves_all _ (always r.first_action))))
 
   module_changes_rule : Rule nesting_bound (At any g.module_changes) (always follow_module_changes) (r.read_module_changes (AnyHeight any))
-  unfolding r.read_module_changes r.read_more_guarded same_kind
-  module_changes_rule = gather_from (k.If ∷ []) follow_module_changes g.with_guarded unguarded_rule guarded_rule starts_guarded refl refl refl (leaves_many r.first_action follow_module_changes refl refl starts_guarded)
+  unfolding r.read_module_changes r.read_more_conditional same_kind
+  module_changes_rule = gather_from (k.If ∷ []) follow_module_changes g.with_conditional unconditional_rule conditional_rule starts_conditional refl refl refl (leaves_many r.first_action follow_module_changes refl refl starts_conditional)
 
   starts_module_changes : Starts (k.Module ∷ []) (At any g.module_changes)
   unfolding same_kind
@@ -192,23 +192,23 @@ module _ (any : Bool) where
   abbrev from_changes : List Kind
   from_changes = k.Change ∷ k.End ∷ []
 
-  abbrev from_joins : List Kind
-  from_joins = k.Introduce ∷ from_changes
+  abbrev from_introduced : List Kind
+  from_introduced = k.Introduce ∷ from_changes
 
   starts_end : Starts from_changes (λ m. both (either (g.changes any (expr any m)) (nothing [])) (word k.End))
   unfolding same_kind
   starts_end = starts_optional from_changes [] refl starts_changes (starts_word k.End _ refl)
 
-  starts_from_joins : Starts from_joins (λ m. both (either (g.joins any (expr any m)) (nothing g.no_joins)) (both (either (g.changes any (expr any m)) (nothing [])) (word k.End)))
+  starts_from_introduced : Starts from_introduced (λ m. both (either (g.introduced any (expr any m)) (nothing g.no_introduced)) (both (either (g.changes any (expr any m)) (nothing [])) (word k.End)))
   unfolding same_kind
-  starts_from_joins = starts_optional from_joins g.no_joins refl starts_joins (starts_more from_joins refl starts_end)
+  starts_from_introduced = starts_optional from_introduced g.no_introduced refl starts_introduced (starts_more from_introduced refl starts_end)
 
   feature_rule : Rule nesting_bound (At any g.one_feature) (always []) (r.read_feature (AnyHeight any))
   unfolding r.read_feature same_kind
   feature_rule = map g.feature_of (after k.Feature (seq tok_name
       (seq some_needs_rule
-      (seq some_joins_rule (before k.End refl some_changes_rule) (leaves_start follow_joins (always []) refl starts_end))
-      (leaves_start follow_needs (always []) refl starts_from_joins))
+      (seq some_introduced_rule (before k.End refl some_changes_rule) (leaves_start follow_introduced (always []) refl starts_end))
+      (leaves_start follow_needs (always []) refl starts_from_introduced))
       (leaves_all _ (always []))))
 
   starts_feature : Starts (k.Feature ∷ []) (At any g.one_feature)

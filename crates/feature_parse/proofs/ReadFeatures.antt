@@ -18,10 +18,10 @@ use Rattle.smv_expr.proofs.ReadTrees.{Keeps, IsOk, IfSome, Each, both_true, file
 use Rattle.smv_parse.specs.RoundTrip.{is_printable_type}
 use Rattle.smv_parse.proofs.ReadModels.{keeps_left_side, keeps_type, keeps_parts}
 use Rattle.feature_parse.specs.declared.needs.RequiredName.{RequiredName}
-use Rattle.feature_parse.specs.declared.joins.JoinedReading.{JoinedReading}
-use Rattle.feature_parse.specs.declared.joins.JoinsReading.{JoinsReading}
+use Rattle.feature_parse.specs.declared.introduced.JoinedModule.{JoinedModule}
+use Rattle.feature_parse.specs.declared.introduced.IntroducedModules.{IntroducedModules}
 use Rattle.feature_parse.specs.declared.changes.ActionText.{ActionText}
-use Rattle.feature_parse.specs.declared.changes.GuardedActions.{GuardedActions}
+use Rattle.feature_parse.specs.declared.changes.ConditionalActions.{ConditionalActions}
 use Rattle.feature_parse.specs.declared.changes.ModuleChanges.{ModuleChanges}
 use Rattle.feature_parse.specs.declared.features.SingleFeature.{SingleFeature}
 use Rattle.feature_parse.specs.declared.features.FeatureReading.{FeatureReading}
@@ -73,8 +73,8 @@ module_ok m (one ∷ more) h i = needs_ok m.0 (one ∷ more) h i
 abbrev IsOkAction : ActionText → Type 0
 IsOkAction placed = is_printable_action placed.action ≡ true
 
-abbrev IsOkGuarded : GuardedActions → Type 0
-IsOkGuarded one = IsOk one.cond × Each IsOkAction one.actions
+abbrev IsOkConditional : ConditionalActions → Type 0
+IsOkConditional one = IsOk one.cond × Each IsOkAction one.actions
 
 abbrev AreOkChanges : List Change → Type 0
 AreOkChanges changes = all_are (map is_printable_change changes) ≡ true
@@ -94,10 +94,10 @@ keeps_target = keeps_mapped g.target_of (λ v h. both_true _ _ h.0 (all_true is_
 
 -- ---- the grammar
 
-abbrev AreOkJoins : JoinsReading → Type 0
-AreOkJoins found = all_are (map is_printable_joined found.joins) ≡ true
+abbrev AreOkIntroduced : IntroducedModules → Type 0
+AreOkIntroduced found = all_are (map is_printable_joined found.joins) ≡ true
 
-abbrev IsOkJoined : JoinedReading → Type 0
+abbrev IsOkJoined : JoinedModule → Type 0
 IsOkJoined one = is_printable_joined one.joined ≡ true
 
 abbrev IsOkFeature : SingleFeature → Type 0
@@ -118,26 +118,26 @@ module _ (W : Expr → Tokens → Type 0) (w : Keeps IsOk W) where
   keeps_needs = keeps_mapped _ (λ v h. h)
       (keeps_second {Q = AreOkNeeds} (keeps_mapped _ (λ lists h. folded AreOkNeeds AreOkNeeds g.appended (λ found more. all_append is_printable_need found more) [] lists refl h) (keeps_many keeps_module_needs)))
 
-  keeps_joined : Keeps IsOkJoined (g.joined false W)
+  keeps_joined : Keeps IsOkJoined (g.joined_module false W)
   keeps_joined = keeps_mapped g.joined_of (λ v h. both_true _ _ h.0 h.1) (keeps_second (keeps_both keeps_name (keeps_parts W w)))
 
-  keeps_joins : Keeps AreOkJoins (g.joins false W)
-  keeps_joins = keeps_mapped _ (λ v h. h)
-      (keeps_second {Q = AreOkJoins} (keeps_mapped _ (λ items h. folded AreOkJoins IsOkJoined g.with_joined (λ found one. all_pushed is_printable_joined found.joins one.joined) g.no_joins items refl h) (keeps_many keeps_joined)))
+  keeps_introduced : Keeps AreOkIntroduced (g.introduced false W)
+  keeps_introduced = keeps_mapped _ (λ v h. h)
+      (keeps_second {Q = AreOkIntroduced} (keeps_mapped _ (λ items h. folded AreOkIntroduced IsOkJoined g.with_joined (λ found one. all_pushed is_printable_joined found.joins one.joined) g.no_introduced items refl h) (keeps_many keeps_joined)))
 
   keeps_action : Keeps IsOkAction (g.action false W)
   keeps_action = keeps_either
       (keeps_mapped g.impose_of (λ v h. both_true _ _ h.0 h.1) (keeps_second (keeps_both keeps_left_side (keeps_second (keeps_first w)))))
       (keeps_mapped g.treat_of (λ v h. both_true _ _ h.0 h.1) (keeps_second (keeps_both keeps_target (keeps_second (keeps_first w)))))
 
-  keeps_guarded : Keeps IsOkGuarded (g.guarded false W)
-  keeps_guarded = keeps_mapped g.guarded_of (λ v h. h) (keeps_second (keeps_both w (keeps_second (keeps_both keeps_action (keeps_many keeps_action)))))
+  keeps_conditional : Keeps IsOkConditional (g.conditional false W)
+  keeps_conditional = keeps_mapped g.conditional_of (λ v h. h) (keeps_second (keeps_both w (keeps_second (keeps_both keeps_action (keeps_many keeps_action)))))
 
-  keeps_unguarded : Keeps IsOkModule (g.unguarded false W)
-  keeps_unguarded = keeps_mapped g.unguarded_of (λ v h. with_ok (g.no_changes v.1.0.0) e.True v.1.1 (h.0, refl) p_true h.1) (keeps_second (keeps_both keeps_name (keeps_many keeps_action)))
+  keeps_unconditional : Keeps IsOkModule (g.unconditional false W)
+  keeps_unconditional = keeps_mapped g.unconditional_of (λ v h. with_ok (g.no_changes v.1.0.0) e.True v.1.1 (h.0, refl) p_true h.1) (keeps_second (keeps_both keeps_name (keeps_many keeps_action)))
 
   keeps_module_changes : Keeps IsOkModule (g.module_changes false W)
-  keeps_module_changes = keeps_chain {P = IsOkModule} {Q = IsOkGuarded} g.with_guarded (λ found one h i. with_ok found one.cond one.actions h i.0 i.1) keeps_unguarded keeps_guarded
+  keeps_module_changes = keeps_chain {P = IsOkModule} {Q = IsOkConditional} g.with_conditional (λ found one h i. with_ok found one.cond one.actions h i.0 i.1) keeps_unconditional keeps_conditional
 
   keeps_changes : Keeps AreOkChanges (g.changes false W)
   keeps_changes = keeps_mapped _ (λ v h. h)
@@ -146,7 +146,7 @@ module _ (W : Expr → Tokens → Type 0) (w : Keeps IsOk W) where
   keeps_feature : Keeps IsOkFeature (g.one_feature false W)
   keeps_feature = keeps_mapped g.feature_of (λ v h. both_true _ _ h.0 (both_true _ _ h.1.0 (both_true _ _ h.1.1.0 h.1.1.1)))
       (keeps_second (keeps_both keeps_name (keeps_both {P = AreOkNeeds} (keeps_either keeps_needs (keeps_nothing [] refl))
-      (keeps_both {P = AreOkJoins} (keeps_either keeps_joins (keeps_nothing g.no_joins refl)) (keeps_first {P = AreOkChanges} (keeps_either keeps_changes (keeps_nothing [] refl)))))))
+      (keeps_both {P = AreOkIntroduced} (keeps_either keeps_introduced (keeps_nothing g.no_introduced refl)) (keeps_first {P = AreOkChanges} (keeps_either keeps_changes (keeps_nothing [] refl)))))))
 
   keeps_features : Keeps PrintableFeatures (g.features_of false W)
   keeps_features = keeps_mapped _ (λ items h. folded PrintableFeatures IsOkFeature g.with_feature (λ found one. all_pushed is_printable_feature found.features one.feature) g.no_features items refl h) (keeps_many keeps_feature)

@@ -17,10 +17,10 @@ use Rattle.smv_parse.specs.declared.names.LeftSide.{LeftSide}
 use Rattle.smv_parse.specs.declared.sections.Parts.{Parts}
 use Rattle.smv_parse.specs.Grammar.{smv_type, left_side, all_parts}
 use Rattle.feature_parse.specs.declared.needs.RequiredName.{RequiredName}
-use Rattle.feature_parse.specs.declared.joins.JoinedReading.{JoinedReading}
-use Rattle.feature_parse.specs.declared.joins.JoinsReading.{JoinsReading}
+use Rattle.feature_parse.specs.declared.introduced.JoinedModule.{JoinedModule}
+use Rattle.feature_parse.specs.declared.introduced.IntroducedModules.{IntroducedModules}
 use Rattle.feature_parse.specs.declared.changes.ActionText.{ActionText}
-use Rattle.feature_parse.specs.declared.changes.GuardedActions.{GuardedActions}
+use Rattle.feature_parse.specs.declared.changes.ConditionalActions.{ConditionalActions}
 use Rattle.feature_parse.specs.declared.changes.ModuleChanges.{ModuleChanges}
 use Rattle.feature_parse.specs.declared.features.SingleFeature.{SingleFeature}
 use Rattle.feature_parse.specs.declared.features.FeatureReading.{FeatureReading}
@@ -51,18 +51,18 @@ needs_of p = needs_in p.1.0 p.1.1
 -- ---- the trees of what is introduced
 
 -- what a module gets, which stands at the word MODULE
-abbrev pub joined_of : Span × ((Bytes × Span) × Parts) → JoinedReading
+abbrev pub joined_of : Span × ((Bytes × Span) × Parts) → JoinedModule
 joined_of p = record {
   joined = record { «module» = p.1.0.0; sections = p.1.1.sections; at = p.0 };
   skipped = p.1.1.skipped;
 }
 
 -- nothing is introduced
-abbrev pub no_joins : JoinsReading
-no_joins = record { joins = []; skipped = [] }
+abbrev pub no_introduced : IntroducedModules
+no_introduced = record { joins = []; skipped = [] }
 
 -- what one more module gets, after the others
-abbrev pub with_joined : JoinsReading → JoinedReading → JoinsReading
+abbrev pub with_joined : IntroducedModules → JoinedModule → IntroducedModules
 with_joined found next = record {
   joins = found.joins ++ next.joined ∷ [];
   skipped = found.skipped ++ next.skipped;
@@ -83,8 +83,8 @@ abbrev pub treat_of : Span × (Path × (Span × (Expr × Span))) → ActionText
 treat_of p = record { action = Treat p.1.0 p.1.1.1.0; at = p.0 }
 
 -- a condition with its actions
-abbrev pub guarded_of : Span × (Expr × (Span × (ActionText × List ActionText))) → GuardedActions
-guarded_of p = record { cond = p.1.0; actions = p.1.1.1.0 ∷ p.1.1.1.1 }
+abbrev pub conditional_of : Span × (Expr × (Span × (ActionText × List ActionText))) → ConditionalActions
+conditional_of p = record { cond = p.1.0; actions = p.1.1.1.0 ∷ p.1.1.1.1 }
 
 -- an action in a module, under a condition
 abbrev pub change_in : Bytes → Expr → ActionText → Change
@@ -99,12 +99,12 @@ abbrev pub with_changes : ModuleChanges → Expr → List ActionText → ModuleC
 with_changes found cond actions = record found { changes = found.changes ++ map (change_in found.«module» cond) actions }
 
 -- the actions before the first condition, which are always in effect
-abbrev pub unguarded_of : Span × ((Bytes × Span) × List ActionText) → ModuleChanges
-unguarded_of p = with_changes (no_changes p.1.0.0) e.True p.1.1
+abbrev pub unconditional_of : Span × ((Bytes × Span) × List ActionText) → ModuleChanges
+unconditional_of p = with_changes (no_changes p.1.0.0) e.True p.1.1
 
 -- the actions of one more condition, after the others
-abbrev pub with_guarded : ModuleChanges → GuardedActions → ModuleChanges
-with_guarded found next = with_changes found next.cond next.actions
+abbrev pub with_conditional : ModuleChanges → ConditionalActions → ModuleChanges
+with_conditional found next = with_changes found next.cond next.actions
 
 -- the changes of one more module, after the others
 abbrev pub with_module_changes : List Change → ModuleChanges → List Change
@@ -113,7 +113,7 @@ with_module_changes found next = found ++ next.changes
 -- ---- the trees of features
 
 -- a feature with what is skipped in it
-abbrev pub feature_of : Span × ((Bytes × Span) × (List Need × (JoinsReading × (List Change × Span)))) → SingleFeature
+abbrev pub feature_of : Span × ((Bytes × Span) × (List Need × (IntroducedModules × (List Change × Span)))) → SingleFeature
 feature_of p = record {
   feature = record { name = p.1.0.0; needs = p.1.1.0; joins = p.1.1.1.0.joins; changes = p.1.1.1.1.0; at = p.0 };
   skipped = p.1.1.1.0.skipped;
@@ -160,13 +160,13 @@ module _ (any : Bool) (W : Expr → Tokens → Type 0) where
   needs = mapped (λ p. p.1) (both (word k.Require) (mapped (fold appended []) (many module_needs)))
 
   -- MODULE id { section }
-  abbrev pub joined : Lang JoinedReading
-  joined = mapped joined_of (both (word k.Module) (both name (all_parts any W)))
+  abbrev pub joined_module : Lang JoinedModule
+  joined_module = mapped joined_of (both (word k.Module) (both name (all_parts any W)))
 
   -- INTRODUCE { MODULE .. }
-  abbrev pub joins : Lang JoinsReading
-  joins = mapped (λ p. p.1)
-      (both (word k.Introduce) (mapped (fold with_joined no_joins) (many joined)))
+  abbrev pub introduced : Lang IntroducedModules
+  introduced = mapped (λ p. p.1)
+      (both (word k.Introduce) (mapped (fold with_joined no_introduced) (many joined_module)))
 
   -- IMPOSE left side := expr ;
   abbrev pub impose : Lang ActionText
@@ -183,17 +183,17 @@ module _ (any : Bool) (W : Expr → Tokens → Type 0) where
   action = either impose treat
 
   -- IF expr THEN action { action }
-  abbrev pub guarded : Lang GuardedActions
-  guarded = mapped guarded_of
+  abbrev pub conditional : Lang ConditionalActions
+  conditional = mapped conditional_of
       (both (word k.If) (both W (both (word k.Then) (both action (many action)))))
 
   -- MODULE id { action }
-  abbrev pub unguarded : Lang ModuleChanges
-  unguarded = mapped unguarded_of (both (word k.Module) (both name (many action)))
+  abbrev pub unconditional : Lang ModuleChanges
+  unconditional = mapped unconditional_of (both (word k.Module) (both name (many action)))
 
   -- MODULE id { action } { IF .. }
   abbrev pub module_changes : Lang ModuleChanges
-  module_changes = mapped (λ p. fold with_guarded p.0 p.1) (both unguarded (many guarded))
+  module_changes = mapped (λ p. fold with_conditional p.0 p.1) (both unconditional (many conditional))
 
   -- CHANGE { MODULE .. }
   abbrev pub changes : Lang (List Change)
@@ -204,7 +204,7 @@ module _ (any : Bool) (W : Expr → Tokens → Type 0) where
   abbrev pub one_feature : Lang SingleFeature
   one_feature = mapped feature_of
       (both (word k.Feature) (both name
-      (both (either needs (nothing [])) (both (either joins (nothing no_joins))
+      (both (either needs (nothing [])) (both (either introduced (nothing no_introduced))
       (both (either changes (nothing [])) (word k.End))))))
 
   -- { feature }

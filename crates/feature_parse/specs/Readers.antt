@@ -11,14 +11,14 @@ use Rattle.smv_expr.specs.ExprReaders.{read_dotted_names, read_whole_expr}
 use Rattle.smv_expr.specs.Limits.{Limit}
 use Rattle.smv_parse.specs.Readers.{read_smv_type, read_left_side, read_parts}
 use Rattle.feature_parse.specs.declared.needs.RequiredName.{RequiredName}
-use Rattle.feature_parse.specs.declared.joins.JoinedReading.{JoinedReading}
-use Rattle.feature_parse.specs.declared.joins.JoinsReading.{JoinsReading}
+use Rattle.feature_parse.specs.declared.introduced.JoinedModule.{JoinedModule}
+use Rattle.feature_parse.specs.declared.introduced.IntroducedModules.{IntroducedModules}
 use Rattle.feature_parse.specs.declared.changes.ActionText.{ActionText}
-use Rattle.feature_parse.specs.declared.changes.GuardedActions.{GuardedActions}
+use Rattle.feature_parse.specs.declared.changes.ConditionalActions.{ConditionalActions}
 use Rattle.feature_parse.specs.declared.changes.ModuleChanges.{ModuleChanges}
 use Rattle.feature_parse.specs.declared.features.SingleFeature.{SingleFeature}
 use Rattle.feature_parse.specs.declared.features.FeatureReading.{FeatureReading}
-use Rattle.feature_parse.specs.Grammar.{appended, required_of, needs_of, joined_of, no_joins, with_joined, impose_of, target_of, treat_of, guarded_of, unguarded_of, with_guarded, with_module_changes, feature_of, no_features, with_feature}
+use Rattle.feature_parse.specs.Grammar.{appended, required_of, needs_of, joined_of, no_introduced, with_joined, impose_of, target_of, treat_of, conditional_of, unconditional_of, with_conditional, with_module_changes, feature_of, no_features, with_feature}
 
 -- what an action begins with
 abbrev pub first_action : List Kind
@@ -77,21 +77,21 @@ module _ (limit : Limit) where
   -- ---- what is introduced
 
   -- MODULE id { section }
-  unfoldable pub read_joined : Reader JoinedReading
-  read_joined = read_mapped joined_of
+  unfoldable pub read_joined_module : Reader JoinedModule
+  read_joined_module = read_mapped joined_of
       (read_both (read_word k.Module) (read_both read_name (read_parts limit)))
 
   -- { MODULE .. }
-  unfoldable pub read_more_joins : Reader JoinsReading
-  read_more_joins = read_fold (k.Module ∷ []) read_joined with_joined no_joins
+  unfoldable pub read_more_introduced : Reader IntroducedModules
+  read_more_introduced = read_fold (k.Module ∷ []) read_joined_module with_joined no_introduced
 
   -- INTRODUCE { MODULE .. }
-  unfoldable pub read_joins : Reader JoinsReading
-  read_joins = read_mapped (λ p. p.1) (read_both (read_word k.Introduce) read_more_joins)
+  unfoldable pub read_introduced : Reader IntroducedModules
+  read_introduced = read_mapped (λ p. p.1) (read_both (read_word k.Introduce) read_more_introduced)
 
   -- [ INTRODUCE .. ]
-  unfoldable pub read_some_joins : Reader JoinsReading
-  read_some_joins = read_either (k.Introduce ∷ []) read_joins (read_nothing no_joins)
+  unfoldable pub read_some_introduced : Reader IntroducedModules
+  read_some_introduced = read_either (k.Introduce ∷ []) read_introduced (read_nothing no_introduced)
 
   -- ---- changes
 
@@ -120,24 +120,24 @@ module _ (limit : Limit) where
   read_more_actions = read_many first_action read_action
 
   -- IF expr THEN action { action }
-  unfoldable pub read_guarded : Reader GuardedActions
-  read_guarded = read_mapped guarded_of
+  unfoldable pub read_conditional : Reader ConditionalActions
+  read_conditional = read_mapped conditional_of
       (read_both (read_word k.If)
       (read_both (read_whole_expr limit)
       (read_both (read_word k.Then) (read_both read_action read_more_actions))))
 
   -- MODULE id { action }
-  unfoldable pub read_unguarded : Reader ModuleChanges
-  read_unguarded = read_mapped unguarded_of
+  unfoldable pub read_unconditional : Reader ModuleChanges
+  read_unconditional = read_mapped unconditional_of
       (read_both (read_word k.Module) (read_both read_name read_more_actions))
 
   -- { IF .. }, after what is there
-  unfoldable pub read_more_guarded : ModuleChanges → Reader ModuleChanges
-  read_more_guarded found = read_fold (k.If ∷ []) read_guarded with_guarded found
+  unfoldable pub read_more_conditional : ModuleChanges → Reader ModuleChanges
+  read_more_conditional found = read_fold (k.If ∷ []) read_conditional with_conditional found
 
   -- MODULE id { action } { IF .. }
   unfoldable pub read_module_changes : Reader ModuleChanges
-  read_module_changes ts = and_then (read_unguarded ts) read_more_guarded
+  read_module_changes ts = and_then (read_unconditional ts) read_more_conditional
 
   -- { MODULE .. }
   unfoldable pub read_more_changes : Reader (List Change)
@@ -159,7 +159,7 @@ module _ (limit : Limit) where
       (read_both (read_word k.Feature)
       (read_both read_name
       (read_both read_some_needs
-      (read_both read_some_joins (read_both read_some_changes (read_word k.End))))))
+      (read_both read_some_introduced (read_both read_some_changes (read_word k.End))))))
 
   -- { feature }
   unfoldable pub read_features : Reader FeatureReading

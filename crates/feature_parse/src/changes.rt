@@ -5,7 +5,7 @@ ghost use Rattle.smv_ast.specs.declared.syntax.Expr.TheVariants as e;
 ghost use Rattle.smv_expr.specs.Language.{begins};
 ghost use Rattle.smv_expr.specs.Reading.{Gives};
 ghost use Rattle.smv_parse.specs.Readers.{the_limit};
-ghost use Rattle.feature_parse.specs.Grammar.{change_in, no_changes, with_changes, with_guarded};
+ghost use Rattle.feature_parse.specs.Grammar.{change_in, no_changes, with_changes, with_conditional};
 ghost use Rattle.feature_parse.specs.Readers as spec;
 
 use integrate_impose::copies::copy_expr;
@@ -29,7 +29,7 @@ pub struct ActionText {
 
 /// Actions under one condition.
 #[derive(Drop)]
-pub struct GuardedActions {
+pub struct ConditionalActions {
     pub cond: Expr,
     pub actions: List<ActionText>,
 }
@@ -123,9 +123,9 @@ fn actions_of(
 }
 
 /// `IF cond THEN`, and one action or more.
-#[tactic(auto, unfolding(crate::specs::Readers::read_guarded))]
-fn guarded(alloc: Global, tokens: &mut Cursor<'_>) -> Result<GuardedActions, ReadError>
-    ensures { Gives (spec.read_guarded the_limit tokens.old) result tokens.new }
+#[tactic(auto, unfolding(crate::specs::Readers::read_conditional))]
+fn conditional(alloc: Global, tokens: &mut Cursor<'_>) -> Result<ConditionalActions, ReadError>
+    ensures { Gives (spec.read_conditional the_limit tokens.old) result tokens.new }
 {
     tokens.expect(Kind::If)?;
     let cond = whole_expr(alloc, tokens)?;
@@ -133,7 +133,7 @@ fn guarded(alloc: Global, tokens: &mut Cursor<'_>) -> Result<GuardedActions, Rea
     let first = action(alloc, tokens)?;
     let more = more_actions(alloc, tokens)?;
     let actions = actions_of(alloc, first, more)?;
-    Ok(GuardedActions { cond, actions })
+    Ok(ConditionalActions { cond, actions })
 }
 
 /// The action as a change of the module, with a copy of its condition.
@@ -183,16 +183,16 @@ impl ModuleChanges {
         Ok(())
     }
 
-    fn push_guarded(&mut self, alloc: Global, next: GuardedActions) -> Result<(), NoMemory>
-        ensures { OnOk result (self.new ≡ with_guarded self.old next) }
+    fn push_conditional(&mut self, alloc: Global, next: ConditionalActions) -> Result<(), NoMemory>
+        ensures { OnOk result (self.new ≡ with_conditional self.old next) }
     {
-        let GuardedActions { cond, actions } = next;
+        let ConditionalActions { cond, actions } = next;
         self.push_all(alloc, &cond, actions)
     }
 }
 
 /// The changes of a module whose actions are always in effect.
-fn unguarded(
+fn always_in_effect(
     alloc: Global,
     module: Text,
     actions: List<ActionText>,
@@ -205,28 +205,28 @@ fn unguarded(
 }
 
 /// MODULE with its name, and the actions before the first condition.
-#[tactic(auto, unfolding(crate::specs::Readers::read_unguarded))]
-fn first_changes(alloc: Global, tokens: &mut Cursor<'_>) -> Result<ModuleChanges, ReadError>
-    ensures { Gives (spec.read_unguarded the_limit tokens.old) result tokens.new }
+#[tactic(auto, unfolding(crate::specs::Readers::read_unconditional))]
+fn unconditional_changes(alloc: Global, tokens: &mut Cursor<'_>) -> Result<ModuleChanges, ReadError>
+    ensures { Gives (spec.read_unconditional the_limit tokens.old) result tokens.new }
 {
     tokens.expect(Kind::Module)?;
     let (module, _) = tokens.name(alloc)?;
     let actions = more_actions(alloc, tokens)?;
-    Ok(unguarded(alloc, module, actions)?)
+    Ok(always_in_effect(alloc, module, actions)?)
 }
 
 /// The conditions that come with their actions, after the changes that are there.
-fn more_guarded(
+fn more_conditional(
     alloc: Global,
     tokens: &mut Cursor<'_>,
     first: ModuleChanges,
 ) -> Result<ModuleChanges, ReadError>
-    ensures { Gives (spec.read_more_guarded the_limit first tokens.old) result tokens.new }
+    ensures { Gives (spec.read_more_conditional the_limit first tokens.old) result tokens.new }
 {
     let mut found = first;
     'rounds: while tokens.sees(Kind::If) {
-        let one = guarded(alloc, tokens)?;
-        found.push_guarded(alloc, one)?;
+        let one = conditional(alloc, tokens)?;
+        found.push_conditional(alloc, one)?;
     }
     Ok(found)
 }
@@ -236,8 +236,8 @@ fn more_guarded(
 fn module_changes(alloc: Global, tokens: &mut Cursor<'_>) -> Result<ModuleChanges, ReadError>
     ensures { Gives (spec.read_module_changes the_limit tokens.old) result tokens.new }
 {
-    let first = first_changes(alloc, tokens)?;
-    more_guarded(alloc, tokens, first)
+    let first = unconditional_changes(alloc, tokens)?;
+    more_conditional(alloc, tokens, first)
 }
 
 fn more_changes(alloc: Global, tokens: &mut Cursor<'_>) -> Result<List<Change>, ReadError>

@@ -10,7 +10,7 @@ ghost use Rattle.feature_parse.specs.Printable.{PrintableFeatures};
 ghost use Rattle.feature_parse.specs.Readers as spec;
 
 use crate::changes::some_changes;
-use crate::joins::{JoinsReading, some_joins};
+use crate::introduced::{IntroducedModules, some_introduced};
 use crate::needs::some_needs;
 use smv_ast::{Fault, Feature, List, NoMemory, Skipped};
 use smv_expr::answer::answer;
@@ -61,7 +61,7 @@ fn feature(alloc: Global, tokens: &mut Cursor<'_>) -> Result<SingleFeature, Read
     let at = tokens.expect(Kind::Feature)?;
     let (name, _) = tokens.name(alloc)?;
     let needs = some_needs(alloc, tokens)?;
-    let JoinsReading { joins, skipped } = some_joins(alloc, tokens)?;
+    let IntroducedModules { joins, skipped } = some_introduced(alloc, tokens)?;
     let changes = some_changes(alloc, tokens)?;
     tokens.expect(Kind::End)?;
     Ok(SingleFeature {

@@ -3,7 +3,7 @@
 
 mod changes;
 mod features;
-mod joins;
+mod introduced;
 mod needs;
 
 pub use features::{FeatureReading, read_features};

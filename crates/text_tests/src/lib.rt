@@ -4,6 +4,8 @@
 #[cfg(test)]
 mod expressions;
 #[cfg(test)]
+mod feature_files;
+#[cfg(test)]
 mod texts;
 #[cfg(test)]
 mod trees;
