@@ -37,7 +37,12 @@ required_of p = record { name = p.0.0; wanted = p.1.0; at = p.0.1 }
 
 -- the need of a name in a module
 abbrev pub need_in : Bytes → RequiredName → Need
-need_in m required = record { «module» = m; name = required.name; wanted = required.wanted; at = required.at }
+need_in m required = record {
+  «module» = m;
+  name = required.name;
+  wanted = required.wanted;
+  at = required.at;
+}
 
 -- The needs of a module: one for each name. Without names it is one with an empty name, which stands at that of the module.
 abbrev pub needs_in : Bytes × Span → List RequiredName → List Need
@@ -83,12 +88,18 @@ abbrev pub treat_of : Span × (Path × (Span × (Expr × Span))) → ActionText
 treat_of p = record { action = Treat p.1.0 p.1.1.1.0; at = p.0 }
 
 -- a condition with its actions
-abbrev pub conditional_of : Span × (Expr × (Span × (ActionText × List ActionText))) → ConditionalActions
+abbrev pub conditional_of : Span × (Expr × (Span × (ActionText × List ActionText)))
+    → ConditionalActions
 conditional_of p = record { cond = p.1.0; actions = p.1.1.1.0 ∷ p.1.1.1.1 }
 
 -- an action in a module, under a condition
 abbrev pub change_in : Bytes → Expr → ActionText → Change
-change_in m cond placed = record { «module» = m; cond = cond; action = placed.action; at = placed.at }
+change_in m cond placed = record {
+  «module» = m;
+  cond = cond;
+  action = placed.action;
+  at = placed.at;
+}
 
 -- no changes of the module
 abbrev pub no_changes : Bytes → ModuleChanges
@@ -96,7 +107,9 @@ no_changes m = record { «module» = m; changes = [] }
 
 -- the actions under the condition, after the others
 abbrev pub with_changes : ModuleChanges → Expr → List ActionText → ModuleChanges
-with_changes found cond actions = record found { changes = found.changes ++ map (change_in found.«module» cond) actions }
+with_changes found cond actions = record found {
+  changes = found.changes ++ map (change_in found.«module» cond) actions;
+}
 
 -- the actions before the first condition, which are always in effect
 abbrev pub unconditional_of : Span × ((Bytes × Span) × List ActionText) → ModuleChanges
@@ -113,9 +126,16 @@ with_module_changes found next = found ++ next.changes
 -- ---- the trees of features
 
 -- a feature with what is skipped in it
-abbrev pub feature_of : Span × ((Bytes × Span) × (List Need × (IntroducedModules × (List Change × Span)))) → SingleFeature
+abbrev pub feature_of : Span
+    × ((Bytes × Span) × (List Need × (IntroducedModules × (List Change × Span)))) → SingleFeature
 feature_of p = record {
-  feature = record { name = p.1.0.0; needs = p.1.1.0; joins = p.1.1.1.0.joins; changes = p.1.1.1.1.0; at = p.0 };
+  feature = record {
+    name = p.1.0.0;
+    needs = p.1.1.0;
+    joins = p.1.1.1.0.joins;
+    changes = p.1.1.1.1.0;
+    at = p.0;
+  };
   skipped = p.1.1.1.0.skipped;
 }
 
@@ -193,7 +213,8 @@ module _ (any : Bool) (W : Expr → Tokens → Type 0) where
 
   -- MODULE id { action } { IF .. }
   abbrev pub module_changes : Lang ModuleChanges
-  module_changes = mapped (λ p. fold with_conditional p.0 p.1) (both unconditional (many conditional))
+  module_changes = mapped (λ p. fold with_conditional p.0 p.1)
+      (both unconditional (many conditional))
 
   -- CHANGE { MODULE .. }
   abbrev pub changes : Lang (List Change)

@@ -25,11 +25,13 @@ is_required_name (b ∷ more) = is_name (b ∷ more)
 
 -- the module, the name and the type
 abbrev pub is_printable_need : Need → Bool
-is_printable_need need = is_name need.«module» && (is_required_name need.name && is_printable_wanted need.wanted)
+is_printable_need need = is_name need.«module»
+    && (is_required_name need.name && is_printable_wanted need.wanted)
 
 -- the module, and the sections that it gets
 abbrev pub is_printable_joined : Joined → Bool
-is_printable_joined joined = is_name joined.«module» && all_are (map is_printable_section joined.sections)
+is_printable_joined joined = is_name joined.«module»
+    && all_are (map is_printable_section joined.sections)
 
 -- the names of a path
 abbrev pub is_printable_path : Path → Bool
@@ -42,7 +44,8 @@ is_printable_action (Treat path right) = is_printable_path path && is_printable 
 
 -- the module, the condition and the action
 abbrev pub is_printable_change : Change → Bool
-is_printable_change change = is_name change.«module» && (is_printable change.cond && is_printable_action change.action)
+is_printable_change change = is_name change.«module»
+    && (is_printable change.cond && is_printable_action change.action)
 
 -- the name, and all parts
 abbrev pub is_printable_feature : Feature → Bool

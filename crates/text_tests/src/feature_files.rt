@@ -23,18 +23,24 @@ fn entry(
 
 /// A need: its name beside the module, and its type as a section.
 fn need_entry(alloc: Global, need: Need) -> Result<Module, Fail> {
-    let heading = format!(in alloc; "need {}", need.module.as_str())?;
+    let Need {
+        module,
+        name,
+        wanted,
+        at,
+    } = need;
+    let heading = format!(in alloc; "need {}", module.as_str())?;
     let mut sections = List::new(alloc);
-    if let Some(wanted) = need.wanted {
+    if let Some(wanted) = wanted {
         let mut declarations = List::new(alloc);
         declarations.push(Declaration {
             name: Text::from_str(alloc, "type")?,
             what: Declared::Plain(wanted),
-            at: need.at,
+            at,
         })?;
         sections.push(Section::Vars(declarations))?;
     }
-    entry(alloc, heading.as_str(), &need.name, need.at, sections)
+    entry(alloc, heading.as_str(), &name, at, sections)
 }
 
 /// The action of a change as sections. That of a TREAT begins with the offset of its path.
@@ -67,10 +73,26 @@ fn action_sections(
 
 /// A change: its condition, then its action.
 fn change_entry(alloc: Global, change: Change) -> Result<Module, Fail> {
+    let Change {
+        module,
+        cond,
+        action,
+        at,
+    } = change;
     let mut sections = List::new(alloc);
-    sections.push(Section::Init(change.cond, change.at))?;
-    action_sections(alloc, change.action, change.at, &mut sections)?;
-    entry(alloc, "change", &change.module, change.at, sections)
+    sections.push(Section::Init(cond, at))?;
+    action_sections(alloc, action, at, &mut sections)?;
+    entry(alloc, "change", &module, at, sections)
+}
+
+/// Introduced sections under their module.
+fn join_entry(alloc: Global, joined: Joined) -> Result<Module, Fail> {
+    let Joined {
+        module,
+        sections,
+        at,
+    } = joined;
+    entry(alloc, "join", &module, at, sections)
 }
 
 /// Adds the entries of a feature, from the last to the first.
@@ -89,7 +111,7 @@ fn push_feature(alloc: Global, entries: &mut List<Module>, feature: Feature) -> 
     }
     for _ in 0..joins.len() {
         if let Some(joined) = joins.pop() {
-            entries.push(entry(alloc, "join", &joined.module, joined.at, joined.sections)?)?;
+            entries.push(join_entry(alloc, joined)?)?;
         }
     }
     for _ in 0..needs.len() {
