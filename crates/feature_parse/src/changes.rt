@@ -1,6 +1,6 @@
 //! What a feature changes in the modules.
 
-ghost use Rattle.std.specs.Prelude.{◌≡◌, ◌∷◌, IfOk, OnOk};
+ghost use Rattle.std.specs.Prelude.{◌≡◌, IfOk, OnOk};
 ghost use Rattle.smv_ast.specs.declared.syntax.Expr.TheVariants as e;
 ghost use Rattle.smv_expr.specs.Language.{begins};
 ghost use Rattle.smv_expr.specs.Reading.{Gives};
@@ -15,7 +15,7 @@ use smv_expr::answer::whole_expr;
 use smv_expr::cursor::Cursor;
 use smv_expr::error::ReadError;
 use smv_expr::kind::Kind;
-use smv_expr::names::with_first;
+use smv_expr::lists::with_first;
 use smv_expr::operand::dotted_names;
 use smv_parse::names::{LeftSide, left_side};
 use std::alloc::Global;
@@ -109,19 +109,6 @@ fn more_actions(alloc: Global, tokens: &mut Cursor<'_>) -> Result<List<ActionTex
     Ok(found)
 }
 
-fn actions_of(
-    alloc: Global,
-    first: ActionText,
-    more: List<ActionText>,
-) -> Result<List<ActionText>, NoMemory>
-    ensures { IfOk result (λ all. all ≡ first ∷ more) }
-{
-    let mut all = List::new(alloc);
-    all.push(first)?;
-    all.append(more)?;
-    Ok(all)
-}
-
 /// `IF cond THEN`, and one action or more.
 #[tactic(auto, unfolding(crate::specs::Readers::read_conditional))]
 fn conditional(alloc: Global, tokens: &mut Cursor<'_>) -> Result<ConditionalActions, ReadError>
@@ -132,7 +119,7 @@ fn conditional(alloc: Global, tokens: &mut Cursor<'_>) -> Result<ConditionalActi
     tokens.expect(Kind::Then)?;
     let first = action(alloc, tokens)?;
     let more = more_actions(alloc, tokens)?;
-    let actions = actions_of(alloc, first, more)?;
+    let actions = with_first(alloc, first, more)?;
     Ok(ConditionalActions { cond, actions })
 }
 

@@ -7,6 +7,7 @@ pub mod error;
 pub mod expr;
 pub mod kind;
 mod lexeme;
+pub mod lists;
 pub mod measured;
 pub mod names;
 mod numeral;

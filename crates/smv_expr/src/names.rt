@@ -1,13 +1,13 @@
 //! Lists of names.
 
-ghost use Rattle.std.specs.Prelude.{◌≡◌, ◌∷◌, IfOk};
 ghost use Rattle.smv_expr.specs.Reading.{Gives};
 ghost use Rattle.smv_expr.specs.Names as spec;
 
 use crate::cursor::Cursor;
 use crate::error::ReadError;
 use crate::kind::Kind;
-use smv_ast::{List, NoMemory, Text};
+use crate::lists::with_first;
+use smv_ast::{List, Text};
 use std::alloc::Global;
 
 /// A comma, and the name after it.
@@ -29,16 +29,6 @@ fn more_names(alloc: Global, tokens: &mut Cursor<'_>) -> Result<List<Text>, Read
         found.push(one)?;
     }
     Ok(found)
-}
-
-/// The first name, and the others after it.
-pub fn with_first(alloc: Global, first: Text, more: List<Text>) -> Result<List<Text>, NoMemory>
-    ensures { IfOk result (λ all. all ≡ first ∷ more) }
-{
-    let mut all = List::new(alloc);
-    all.push(first)?;
-    all.append(more)?;
-    Ok(all)
 }
 
 /// One name or more, with commas between them.

@@ -9,8 +9,8 @@ ghost use Rattle.smv_expr.specs.ExprReaders as spec;
 use crate::cursor::Cursor;
 use crate::error::ReadError;
 use crate::kind::Kind;
+use crate::lists::with_first;
 use crate::measured::Tree;
-use crate::names::with_first;
 use smv_ast::{List, Path, Span, Text};
 use std::alloc::Global;
 

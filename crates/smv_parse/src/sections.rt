@@ -1,6 +1,6 @@
 //! The sections of a module, and what stands in them.
 
-ghost use Rattle.std.specs.Prelude.{◌≡◌, [], ◌∷◌, IfOk, OnOk};
+ghost use Rattle.std.specs.Prelude.{◌≡◌, OnOk};
 ghost use Rattle.smv_expr.specs.Language.{begins};
 ghost use Rattle.smv_expr.specs.Reading.{Gives};
 ghost use Rattle.smv_parse.specs.Grammar.{no_parts, with_part};
@@ -18,6 +18,7 @@ use smv_expr::cursor::Cursor;
 use smv_expr::error::ReadError;
 use smv_expr::expr::sees_expr;
 use smv_expr::kind::Kind;
+use smv_expr::lists::with_first;
 use std::alloc::Global;
 
 /// A section of a module, or one that is skipped.
@@ -74,15 +75,6 @@ fn more_exprs(alloc: Global, tokens: &mut Cursor<'_>) -> Result<List<Expr>, Read
         found.push(one)?;
     }
     Ok(found)
-}
-
-fn with_first(alloc: Global, first: Expr, more: List<Expr>) -> Result<List<Expr>, NoMemory>
-    ensures { IfOk result (λ all. all ≡ first ∷ more) }
-{
-    let mut all = List::new(alloc);
-    all.push(first)?;
-    all.append(more)?;
-    Ok(all)
 }
 
 /// One expression or more, with commas between them.

@@ -1,15 +1,16 @@
 //! The types of variables.
 
-ghost use Rattle.std.specs.Prelude.{◌≡◌, ◌∷◌, IfOk};
+ghost use Rattle.std.specs.Prelude.{◌≡◌};
 ghost use Rattle.smv_expr.specs.Language.{begins};
 ghost use Rattle.smv_expr.specs.Reading.{Gives};
 ghost use Rattle.smv_parse.specs.Readers as spec;
 ghost use Rattle.smv_parse.specs.Readers.{the_limit};
 
-use smv_ast::{List, NoMemory, SmvType};
+use smv_ast::{List, SmvType};
 use smv_expr::cursor::Cursor;
 use smv_expr::error::ReadError;
 use smv_expr::kind::Kind;
+use smv_expr::lists::with_first;
 use smv_expr::names::names;
 use smv_expr::operand::{sign, up_to};
 use std::alloc::Global;
@@ -46,15 +47,6 @@ fn more_signs(alloc: Global, tokens: &mut Cursor<'_>) -> Result<List<i64>, ReadE
         found.push(one)?;
     }
     Ok(found)
-}
-
-fn with_first(alloc: Global, first: i64, more: List<i64>) -> Result<List<i64>, NoMemory>
-    ensures { IfOk result (λ all. all ≡ first ∷ more) }
-{
-    let mut all = List::new(alloc);
-    all.push(first)?;
-    all.append(more)?;
-    Ok(all)
 }
 
 /// Numbers with commas between them.
