@@ -1,30 +1,15 @@
 //! Applying the changes of a feature, one after another.
 
-ghost use Rattle.std.specs.Prelude.{◌≡◌, IfOk};
+ghost use Rattle.std.specs.Prelude.{◌≡◌};
 ghost use Rattle.integrate_impose.specs.Answers.{Answers};
 ghost use Rattle.integrate.specs.Changes as spec;
 
-use crate::names::{MissingName, first_missing};
+use crate::names::first_missing;
+use crate::reports::missing_fault;
 use integrate_impose::impose;
 use integrate_treat::treat;
-use smv_ast::{Action, Change, Fault, NoMemory, Product, Program, Text};
+use smv_ast::{Action, Change, Fault, Product, Program, Text};
 use std::alloc::Global;
-
-fn missing_fault(
-    alloc: Global,
-    feature: &Text,
-    product: Product,
-    missing: MissingName,
-) -> Result<Fault, NoMemory>
-    ensures { IfOk result (λ f. f ≡ spec.missing_fault feature.now product missing) }
-{
-    Ok(Fault::RequireMissing {
-        at: Some(missing.at),
-        feature: feature.try_clone(alloc)?,
-        name: missing.name,
-        product,
-    })
-}
 
 fn act(alloc: Global, program: Program, change: &Change) -> Result<Program, Fault>
     ensures { Answers (spec.acted change.now change.now.action program) result }

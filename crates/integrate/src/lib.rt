@@ -1,7 +1,17 @@
-//! Applying a feature to a model: its changes, one after another.
 #![tactic(auto)]
 
+mod application;
 mod changes;
+mod introductions;
+mod joined;
+mod lookups;
+mod module_names;
 mod names;
+mod needs;
+mod parts;
+mod reports;
+mod symbols;
+mod types;
 
+pub use application::integrate_one;
 pub use changes::apply_changes;

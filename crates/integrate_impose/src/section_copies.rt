@@ -9,7 +9,8 @@ use smv_ast::{
 };
 use std::alloc::Global;
 
-fn copy_type(alloc: Global, values: &SmvType) -> Result<SmvType, NoMemory>
+/// A copy of the type.
+pub fn copy_type(alloc: Global, values: &SmvType) -> Result<SmvType, NoMemory>
     ensures { IfOk result (λ copy. copy ≡ values.now) }
 {
     match values {
