@@ -1,5 +1,5 @@
 -- The first fault of the items of a list of sections.
-use Rattle.std.proofs.Common.{◌≡◌, ℕ, ◌<◌, ◌+◌, drop, get_or, List, length, Option, Some, None, ap, sym, ◌∙◌, subst, Result, Ok}
+use Rattle.std.proofs.Common.{◌≡◌, ℕ, ◌<◌, ◌+◌, drop, get_or, List, length, Option, None, ap, sym, ◌∙◌, subst, Result, Ok}
 use Rattle.std.specs.List.{flat_map}
 use Rattle.smv_ast.specs.declared.fault.Fault.{Fault}
 use Rattle.smv_meaning.specs.Faults.{ReportsFirst}

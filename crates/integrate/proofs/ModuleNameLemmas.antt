@@ -1,5 +1,5 @@
 -- Sets of names in modules: insertions, and what is in the sets of a list of names.
-use Rattle.std.proofs.Common.{◌≡◌, ℕ, ◌+◌, List, [], ◌∷◌, Bool, true, false, ◌||◌, ◌&&◌, cond, refl, sym, ap, ◌∙◌, subst, nat_lt, arith}
+use Rattle.std.proofs.Common.{◌≡◌, ℕ, ◌+◌, List, [], ◌∷◌, Bool, true, false, ◌||◌, ◌&&◌, cond, refl, sym, ap, ◌∙◌, nat_lt, arith}
 use Rattle.std.specs.Str.{bytes_eq}
 use Rattle.std.specs.HashSet.{Updates, IsEmpty}
 use Rattle.std.specs.List.{list_any, count_by}
@@ -7,7 +7,6 @@ use Rattle.std.proofs.Math.Bool.{or_assoc}
 use Rattle.std.proofs.lemmas.List.Sums.{sum_by-cons}
 use Rattle.std.proofs.lemmas.Slice.Eq.{bytes_eq-Decides}
 use mathlib.Core.Path.{fun_ext}
-use denote.Ref.{Bor}
 use Rattle.smv_meaning.specs.Value.{Name}
 use Rattle.smv_meaning.proofs.NameSetLemmas.{bytes_eq-swapped}
 use Rattle.integrate.specs.Introductions.{ModuleName, is_name_in, is_among, is_repeated}

@@ -5,6 +5,7 @@ pub mod Introductions
 pub mod EqualTypes
 pub mod FeatureFaults
 pub mod Applied
+pub mod ProductText
 pub mod ModuleNames
 pub mod Lookups
 pub mod IntroductionTable

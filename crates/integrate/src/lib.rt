@@ -1,3 +1,4 @@
+//! Applying features to a model, and the text of a product.
 #![tactic(auto)]
 
 mod application;
@@ -9,9 +10,11 @@ mod module_names;
 mod names;
 mod needs;
 mod parts;
+mod product;
 mod reports;
 mod symbols;
 mod types;
 
 pub use application::integrate_one;
 pub use changes::apply_changes;
+pub use product::integrate_product;

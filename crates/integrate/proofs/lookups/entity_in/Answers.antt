@@ -1,7 +1,7 @@
-use Rattle.std.proofs.Common.{◌≡◌, List, Some, None, sym, ap, ◌∙◌}
+use Rattle.std.proofs.Common.{◌≡◌, List, ap, ◌∙◌}
 use Rattle.smv_meaning.specs.Entries.{entries_view, entity_among}
 use Rattle.smv_meaning.specs.Instances.{Entry, entries, module_named}
-use Rattle.smv_meaning.specs.Scopes.{entries_in, names_found}
+use Rattle.smv_meaning.specs.Scopes.{entries_in}
 use Rattle.smv_meaning.proofs.InstanceTableLemmas.{entries_named_is}
 use Rattle.integrate.proofs.lookups.entity_in.Goals as goal
 

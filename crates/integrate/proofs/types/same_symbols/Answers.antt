@@ -1,4 +1,4 @@
-use Rattle.std.proofs.Common.{◌≡◌, ℕ, ℤ, map, length, sym, ◌∙◌, arith}
+use Rattle.std.proofs.Common.{◌≡◌, map, length, sym, ◌∙◌, arith}
 use Rattle.std.proofs.lemmas.List.{length-map}
 use Rattle.smv_meaning.specs.declared.value.Value.TheVariants as value
 use Rattle.integrate.proofs.TypeLemmas.{lengths_differ}
