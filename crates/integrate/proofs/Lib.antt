@@ -4,3 +4,4 @@ pub mod ModuleNameLemmas
 pub mod LookupLemmas
 pub mod FaultLemmas
 pub mod TypeLemmas
+pub mod SameNamesLemmas

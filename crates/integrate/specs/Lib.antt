@@ -10,3 +10,4 @@ pub mod ModuleNames
 pub mod Lookups
 pub mod IntroductionTable
 pub mod Applications
+pub mod SameNames

@@ -3,6 +3,7 @@
 
 mod application;
 mod changes;
+mod imposes;
 mod introductions;
 mod joined;
 mod lookups;

@@ -187,7 +187,7 @@ fn missing_action(
 }
 
 /// The first missing name of a change in its module, those of its condition first.
-fn missing_in_scope(
+pub fn missing_in_scope(
     alloc: Global,
     module_scope: &ModuleScope,
     change: &Change,
