@@ -5,3 +5,4 @@ pub mod LookupLemmas
 pub mod FaultLemmas
 pub mod TypeLemmas
 pub mod SameNamesLemmas
+mod Examples

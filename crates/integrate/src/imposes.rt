@@ -6,6 +6,7 @@ ghost use Rattle.std.specs.List.{list_all};
 ghost use Rattle.integrate_impose.specs.Answers.{Answers};
 ghost use Rattle.smv_meaning.specs.Checking.{IsTableOfProgram};
 ghost use Rattle.smv_meaning.specs.Scopes.{scope_view, scopes_of as scopes_of_program};
+ghost use Rattle.smv_names.specs.Unknown.{IsModuleScope, scope_program};
 ghost use Rattle.integrate.specs.Changes as spec;
 ghost use Rattle.integrate.specs.Lookups.{AreLookups, program_of};
 ghost use Rattle.integrate.specs.SameNames.{HaveSameNames, is_impose};
@@ -47,8 +48,8 @@ pub fn are_imposes(changes: &[Change]) -> bool
     true
 }
 
-/// The first missing name of the change, by tables of the model.
-fn missing_by(
+/// The first missing name of the change in its module.
+fn missing_in_its_module(
     alloc: Global,
     lookups: &Lookups,
     change: &Change,
@@ -74,17 +75,39 @@ fn missing_by(
     missing_in_scope(alloc, &module_scope, change)
 }
 
+/// The same, where a module is at hand, which may be that of the change.
+fn missing_near(
+    alloc: Global,
+    lookups: &Lookups,
+    near: &ModuleScope,
+    change: &Change,
+) -> Result<Option<MissingName>, NoMemory>
+    requires lookups { AreLookups lookups.now }
+    requires near { IsModuleScope near.now }
+    requires program { scope_program near.now ≡ program_of lookups.now }
+    ensures { IfOk result (λ found. found ≡ missing_in_module (program_of lookups.now) change.now) }
+{
+    if change.module.is(near.called.as_str()) {
+        return missing_in_scope(alloc, near, change);
+    }
+    missing_in_its_module(alloc, lookups, change)
+}
+
+/// The first missing name of the change, by tables of the model.
 fn first_missing_by(
     alloc: Global,
     lookups: &Lookups,
+    near: &ModuleScope,
     change: &Change,
 ) -> Result<Option<MissingName>, NoMemory>
-    requires { AreLookups lookups.now }
+    requires lookups { AreLookups lookups.now }
+    requires near { IsModuleScope near.now }
+    requires program { scope_program near.now ≡ program_of lookups.now }
     ensures { IfOk result (λ found. found ≡ first_missing (program_of lookups.now) change.now) }
 {
     match lookups.missing_module(alloc, &change.module, change.at)? {
         Some(missing) => Ok(Some(missing)),
-        None => missing_by(alloc, lookups, change),
+        None => missing_near(alloc, lookups, near, change),
     }
 }
 
@@ -92,14 +115,17 @@ fn first_missing_by(
 fn first_missing_like(
     alloc: Global,
     lookups: &Lookups,
+    near: &ModuleScope,
     program: &Program,
     change: &Change,
 ) -> Result<Option<MissingName>, NoMemory>
     requires lookups { AreLookups lookups.now }
+    requires near { IsModuleScope near.now }
+    requires program { scope_program near.now ≡ program_of lookups.now }
     requires same { HaveSameNames program.now (program_of lookups.now) }
     ensures { IfOk result (λ found. found ≡ first_missing program.now change.now) }
 {
-    let found = first_missing_by(alloc, lookups, change)?;
+    let found = first_missing_by(alloc, lookups, near, change)?;
     Ok(found)
 }
 
@@ -110,20 +136,82 @@ fn apply_impose(
     feature: &Text,
     product: Product,
     lookups: &Lookups,
+    near: &ModuleScope,
     program: Program,
     change: &Change,
 ) -> Result<Program, Fault>
     requires lookups { AreLookups lookups.now }
+    requires near { IsModuleScope near.now }
+    requires program { scope_program near.now ≡ program_of lookups.now }
     requires same { HaveSameNames program (program_of lookups.now) }
     ensures { Answers (spec.changed feature.now product program change.now) result }
 {
-    match first_missing_like(alloc, lookups, &program, change)? {
+    match first_missing_like(alloc, lookups, near, &program, change)? {
         Some(missing) => Err(missing_fault(alloc, feature, product, missing)?),
         None => act(alloc, program, change),
     }
 }
 
 fn impose_all(
+    alloc: Global,
+    feature: &Text,
+    product: Product,
+    lookups: &Lookups,
+    near: &ModuleScope,
+    program: Program,
+    changes: &[Change],
+) -> Result<Program, Fault>
+    requires lookups { AreLookups lookups.now }
+    requires near { IsModuleScope near.now }
+    requires program { scope_program near.now ≡ program_of lookups.now }
+    requires same { HaveSameNames program (program_of lookups.now) }
+    requires imposes { list_all is_impose changes.now ≡ true }
+    ensures { Answers (spec.all_changed feature.now product program changes.now) result }
+{
+    let mut program = program;
+    for change in changes {
+        match apply_impose(alloc, feature, product, lookups, near, program, change) {
+            Ok(next) => program = next,
+            Err(fault) => return Err(fault),
+        }
+    }
+    Ok(program)
+}
+
+/// The same, with the module of one change at hand.
+fn impose_near(
+    alloc: Global,
+    feature: &Text,
+    product: Product,
+    lookups: &Lookups,
+    called: &Text,
+    program: Program,
+    changes: &[Change],
+) -> Result<Program, Fault>
+    requires lookups { AreLookups lookups.now }
+    requires same { HaveSameNames program (program_of lookups.now) }
+    requires imposes { list_all is_impose changes.now ≡ true }
+    ensures { Answers (spec.all_changed feature.now product program changes.now) result }
+{
+    let resolver = lookups.resolver;
+    let declared = declared_in(
+        alloc,
+        resolver.program,
+        lookups.scopes,
+        lookups.numbers,
+        called.as_str(),
+    )?;
+    let near = ModuleScope {
+        known: resolver,
+        called,
+        declared: &declared,
+        rows: resolver.rows.of_module(called.as_str()),
+    };
+    impose_all(alloc, feature, product, lookups, &near, program, changes)
+}
+
+/// The same, with the module of the first change at hand.
+fn impose_listed(
     alloc: Global,
     feature: &Text,
     product: Product,
@@ -136,14 +224,18 @@ fn impose_all(
     requires imposes { list_all is_impose changes.now ≡ true }
     ensures { Answers (spec.all_changed feature.now product program changes.now) result }
 {
-    let mut program = program;
-    for change in changes {
-        match apply_impose(alloc, feature, product, lookups, program, change) {
-            Ok(next) => program = next,
-            Err(fault) => return Err(fault),
-        }
+    match changes {
+        [first, ..] => impose_near(
+            alloc,
+            feature,
+            product,
+            lookups,
+            &first.module,
+            program,
+            changes,
+        ),
+        [] => Ok(program),
     }
-    Ok(program)
 }
 
 fn impose_in_table(
@@ -180,7 +272,7 @@ fn impose_in_table(
         numbers: &numbers,
         modules: &modules,
     };
-    impose_all(alloc, feature, product, &lookups, program, changes)
+    impose_listed(alloc, feature, product, &lookups, program, changes)
 }
 
 fn impose_in_scopes(
