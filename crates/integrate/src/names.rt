@@ -14,10 +14,10 @@ use smv_ast::{Action, Change, Expr, NoMemory, Path, Program, Span, Text, print_j
 use smv_meaning::aliases::aliases_of;
 use smv_meaning::mentions::push_paths;
 use smv_meaning::scope::{Scope, modules_by_name, scopes_of};
+use smv_meaning::symbols::symbols_of;
 use smv_meaning::table::{InstanceTable, instance_table};
 use smv_names::known::{ModuleScope, Resolver, declared_in, is_known};
 use smv_names::rows::RowsByModule;
-use smv_names::symbols::symbols_of;
 use std::alloc::Global;
 
 /// A name that is used and unknown, with its span.

@@ -39,8 +39,7 @@ use Rattle.smv_kinds.proofs.SoundLemmas.{Agrees, sound}
 use Rattle.smv_kinds.proofs.TypeLemmas.{type_fits}
 use Rattle.smv_kinds.proofs.InnerLemmas.{Kept, part_kept}
 use Rattle.smv_meaning.proofs.MemberLemmas.{In, in_of, all_in, from_filter}
-use Rattle.smv_kinds.proofs.BindingLemmas.{variable_in as variable_among, bound, resolves_in}
-use Rattle.smv_kinds.proofs.InstanceLemmas.{then_some}
+use Rattle.smv_meaning.proofs.BindingLemmas.{then_some, variable_in as variable_among, bound, resolves_in}
 use Rattle.smv_kinds.proofs.ItemLemmas.{PlainKept, ActualKept, ItemKept, item_keeps, entity_keeps}
 
 not_both : (b : Bool) → not b ≡ true → b ≡ true → ⊥

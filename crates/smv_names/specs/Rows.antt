@@ -15,11 +15,6 @@ use Rattle.smv_meaning.specs.Instances.{Instance, called_at, instances}
 use Rattle.smv_meaning.specs.Checking.{AreRows, instance_at}
 use Rattle.smv_names.specs.declared.rows.RowsByModule.{RowsByModule}
 
--- the name of the module of an instance with this link
-abbrev pub called_by_link : Option Link → Name
-called_by_link None = codes "main"
-called_by_link (Some link) = link.called.now
-
 -- whether an instance is of the module of this name
 abbrev pub is_of : Name → Instance → Bool
 is_of name instance = bytes_eq (called_at instance) name

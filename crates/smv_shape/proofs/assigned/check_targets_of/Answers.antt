@@ -8,7 +8,7 @@ use Rattle.smv_meaning.specs.Items.{Item, items, items_view}
 use Rattle.smv_meaning.specs.Runs.{first_fault}
 use Rattle.smv_meaning.specs.Value.{Name}
 use Rattle.smv_shape.specs.Assigned as spec
-use Rattle.smv_shape.specs.Names.{Names, in_set}
+use Rattle.smv_meaning.specs.NameSets.{NameSet, in_set}
 use Rattle.smv_shape.proofs.assigned.check_targets_of.Goals as goal
 
 pub returns : goal.returns
