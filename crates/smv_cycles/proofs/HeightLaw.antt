@@ -1,19 +1,17 @@
 -- A model without a fault of cycles or nesting has a height for each expression.
-use Rattle.std.proofs.Common.{◌≡◌, ℕ, ◌≤◌, Bool, true, false, ◌||◌, ◌&&◌, List, [], ◌∷◌, Option, Some, None, refl, arith, nat_lt, if◌then◌else◌}
+use Rattle.std.proofs.Common.{◌≡◌, ℕ, Bool, false, ◌&&◌, List, [], ◌∷◌, Option, Some, None, arith}
 use Rattle.smv_meaning.proofs.FirstFault.{neither_found, not_broken}
 use Rattle.std.proofs.lemmas.Bool.{or_parts}
 use Rattle.std.specs.Prelude.{All}
 use Rattle.std.specs.List.{list_any, slice_index_or}
 use Rattle.std.proofs.lemmas.List.Elements.{All-cons}
-use Rattle.smv_ast.specs.declared.syntax.Expr.{Expr}
-use Rattle.smv_ast.specs.declared.fault.Fault.{Fault}
 use Rattle.smv_ast.specs.declared.fault.Fault.TheVariants as fault
 use Rattle.smv_ast.specs.declared.program.Program.{Program}
 use Rattle.smv_meaning.specs.Value.{and_then}
 use Rattle.smv_meaning.specs.Instances.{Instance, instances}
 use Rattle.smv_meaning.specs.Items.{Item, exprs_of, at_of}
 use Rattle.smv_meaning.specs.ItemIndex.{items_at}
-use Rattle.smv_meaning.specs.Runs.{or_else, first_fault}
+use Rattle.smv_meaning.specs.Runs.{first_fault}
 use Rattle.smv_cycles.specs.Cycles.{declares_instance, is_nested, nested_item, nested_within, nesting_fault, first_cycle, cycle_fault, is_high, height_in, high_in, deep_in, cycles_fault}
 use Rattle.smv_cycles.specs.Heights.{IsLow, HaveHeights}
 

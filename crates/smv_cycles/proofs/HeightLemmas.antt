@@ -1,8 +1,7 @@
 -- Small laws of options; a vertex without edges is on no cycle.
-use Rattle.std.proofs.Common.{◌≡◌, ℕ, zero, suc, Bool, true, List, [], Option, Some, None, refl, ap, if◌then◌else◌}
+use Rattle.std.proofs.Common.{◌≡◌, ℕ, zero, suc, Bool, List, [], Option, Some, None, refl, ap, if◌then◌else◌}
 use Rattle.std.specs.Prelude.{is_some}
 use Rattle.std.specs.List.{find}
-use Rattle.smv_meaning.specs.Value.{and_then}
 use Rattle.fixpoint.specs.Fixpoints.{known, most}
 use Rattle.graph.specs.Graphs.{if_found, leads, reach_step}
 use Rattle.smv_cycles.specs.Reads.{Edge, targets_of, read_by, own_cycle}

@@ -1,5 +1,5 @@
 -- Cycles and nesting, by slots.
-use Rattle.std.specs.Prelude.{◌≡◌, ◌<◌, ◌+◌, ℕ, codes, Bool, false, nat_eq, nat_lt, if◌then◌else◌, List, [], ◌∷◌, ◌++◌, length, map, Option, Some, None, slice_get}
+use Rattle.std.specs.Prelude.{◌≡◌, ◌<◌, ◌+◌, ℕ, codes, Bool, false, nat_eq, nat_lt, if◌then◌else◌, List, [], length, map, Option, Some, None, slice_get}
 use Rattle.std.specs.List.{flat_map}
 use Rattle.std.specs.Option.{option_to_list}
 use Rattle.smv_ast.specs.declared.syntax.Expr.{Expr}
@@ -16,10 +16,10 @@ use Rattle.smv_meaning.specs.declared.table.Row.{Row}
 use Rattle.smv_meaning.specs.declared.table.Link.{Link}
 use Rattle.smv_meaning.specs.Value.{Name, and_then}
 use Rattle.fixpoint.specs.Fixpoints.{entry}
-use Rattle.smv_meaning.specs.Instances.{Entry, path_of, module_named}
+use Rattle.smv_meaning.specs.Instances.{Entry, module_named}
 use Rattle.smv_meaning.specs.Slots.{slot_of, name_of_slot}
 use Rattle.smv_meaning.specs.ItemIndex.{items_at}
-use Rattle.smv_meaning.specs.Runs.{or_else, first_fault, path_text}
+use Rattle.smv_meaning.specs.Runs.{or_else, first_fault}
 use Rattle.smv_meaning.specs.InstanceTable.{entries_at, called_of}
 use Rattle.smv_meaning.specs.Checking.{instance_at}
 use Rattle.smv_meaning.specs.Valuation.{link_of, name_text}

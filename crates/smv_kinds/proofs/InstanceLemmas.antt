@@ -1,17 +1,16 @@
 -- Sorts by number are those by instance, over a correct instance table.
-use Rattle.std.proofs.Common.{◌≡◌, ℕ, zero, suc, ◌<◌, List, [], ◌∷◌, length, Option, Some, None, refl, sym, ap, ◌∙◌, subst}
+use Rattle.std.proofs.Common.{◌≡◌, ℕ, zero, suc, ◌<◌, List, length, Option, Some, None, refl, sym, ap, ◌∙◌}
 use Rattle.std.specs.Option.{option_map, is_some}
 use mathlib.Core.Path.{fun_ext}
 use Rattle.smv_ast.specs.declared.syntax.Expr.{Expr}
 use Rattle.smv_ast.specs.declared.program.Program.{Program}
 use Rattle.smv_meaning.specs.declared.table.InstanceTable.{InstanceTable}
-use Rattle.std.specs.Prelude.{slice_get}
 use Rattle.smv_meaning.specs.Value.{Name, and_then}
 use Rattle.fixpoint.specs.Fixpoints.{known, most, entry}
 use Rattle.smv_meaning.specs.Paths.{QualifiedName, Binding, Aliases, IsVariable, IsInstance, IsDefine, IsFormal, IsNothing, aliased, aliases, resolve}
 use Rattle.smv_meaning.specs.Instances.{Entry, Instance, binding_at, entries, module_at}
 use Rattle.smv_meaning.specs.Entries.{entity_among}
-use Rattle.smv_meaning.specs.InstanceTable.{entries_at, nth_instance, row_instances, renumbered, binding_view, InRange, IsTableOf}
+use Rattle.smv_meaning.specs.InstanceTable.{entries_at, nth_instance, row_instances, renumbered, InRange, IsTableOf}
 use Rattle.smv_meaning.specs.Slots.{slot_of, binding_in, by_slot, AreAliases, resolve_slot}
 use Rattle.smv_meaning.proofs.InstanceTableLemmas.{names_at}
 use Rattle.smv_meaning.proofs.NumberLemmas.{SameInstance, SameName, qualified_at, same_binding, stood_same, aliases_same, resolve_same}

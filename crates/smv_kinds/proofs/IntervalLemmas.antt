@@ -1,10 +1,9 @@
 -- Saturated ends, and ends within the limit of magnitude.
-use Rattle.std.proofs.Common.{◌≡◌, Bool, true, false, ◌&&◌, refl, ap, ◌∙◌, arith}
+use Rattle.std.proofs.Common.{◌≡◌, true, refl, ap, ◌∙◌, arith}
 use Rattle.std.proofs.lemmas.Bool.{and_parts}
 use Rattle.std.specs.Prelude.{ℤ, pos, negsuc, neg_ℤ, int_le, ◌≤ℤ◌}
-use Rattle.std.specs.Int.{int_min, int_max, saturate_signed, w64}
+use Rattle.std.specs.Int.{saturate_signed, w64}
 use Rattle.std.proofs.lemmas.Int.{ints, clamps}
-use Rattle.smv_kinds.specs.declared.intervals.Interval.{Interval}
 use Rattle.smv_kinds.specs.Intervals.{limit, is_within, saturated, between}
 
 pub le_then : (a b c : ℤ) → a ≤ℤ b → b ≤ℤ c → a ≤ℤ c

@@ -1,10 +1,9 @@
 -- Where no rule is broken, the expressions of each item keep the rules, and so do those of each
 -- name of an instance.
-use Rattle.std.proofs.Common.{◌≡◌, ℕ, suc, ◌⊎◌, inl, inr, Bool, true, false, ◌&&◌, cond, List, [], ◌∷◌, Option, Some, None, refl, sym, ap, ◌∙◌, subst}
+use Rattle.std.proofs.Common.{◌≡◌, ℕ, suc, ◌⊎◌, inl, inr, Bool, true, false, cond, List, [], ◌∷◌, Some, None, refl, sym, ap, ◌∙◌, subst}
 use Rattle.std.proofs.lemmas.Bool.{and_parts}
 use Rattle.std.specs.List.{flat_map, list_all}
 use Rattle.smv_ast.specs.declared.syntax.Expr.{Expr}
-use Rattle.smv_ast.specs.declared.program.Declared.{Declared}
 use Rattle.smv_ast.specs.declared.program.Declared.TheVariants.{Plain, Instance as Submodule}
 use Rattle.smv_ast.specs.declared.program.Program.{Program}
 use Rattle.smv_ast.specs.declared.fault.Fault.{Fault}
@@ -12,7 +11,7 @@ use Rattle.smv_meaning.specs.Value.{Name}
 use Rattle.smv_meaning.specs.Instances.{Entity, Variable, Inner, Defined, Formal, Entry, Instance, formals_from, item_entries, entries, module_at, entity_at, instances}
 use Rattle.smv_meaning.specs.Items.{Item, Declares, Assigns, Defines, Constrains, at_of, declared_exprs}
 use Rattle.smv_meaning.specs.ItemIndex.{items_at}
-use Rattle.smv_meaning.specs.Runs.{or_else, first_fault}
+use Rattle.smv_meaning.specs.Runs.{or_else}
 use Rattle.smv_meaning.proofs.ItemLemmas.{item_of_entry}
 use Rattle.smv_meaning.proofs.MemberLemmas.{In, in_either, declares}
 use Rattle.smv_kinds.specs.declared.pass.Pass.{Pass}

@@ -12,18 +12,18 @@ use Rattle.smv_ast.specs.declared.syntax.Branch.{Branch, Branch-F, roll-Branch, 
 use Rattle.smv_meaning.specs.declared.value.Value.{Value}
 use Rattle.smv_meaning.specs.declared.value.Value.TheVariants.{Boolean as Truth, Number as Whole, Symbol as Word}
 use Rattle.smv_meaning.specs.Value.{Name, and_then, of_both, truth, same, operate, negated, logical_not, in_range}
-use Rattle.smv_meaning.specs.Denotations.{Environment, Valued, Allowed, Denotation, BranchDenotation, single, parts_allow, taken_in, holds_in, case_value, case_allows, choice_denotation, expr_denotation, branch_denotation, denotation_of, choice_allows, branch_denotation_of}
+use Rattle.smv_meaning.specs.Denotations.{Environment, Valued, Allowed, Denotation, BranchDenotation, single, parts_allow, taken_in, holds_in, case_value, case_allows, choice_denotation, expr_denotation, denotation_of, choice_allows, branch_denotation_of}
 use Rattle.smv_kinds.specs.declared.sorts.Sort.{Sort}
 use Rattle.smv_kinds.specs.declared.sorts.Sort.TheVariants.{Nothing}
 use Rattle.smv_kinds.specs.declared.facts.Facts.{Facts}
 use Rattle.smv_kinds.specs.Sorts.{is_boolean, has_kind, is_small, join, join_both, binary_sort, truth_sort, if_known, interval_sort}
-use Rattle.smv_kinds.specs.Facts.{truth_facts, number_facts, name_facts, negation_facts, not_facts, next_facts, binary_facts, parts_sort, parts_facts, interval_facts, case_facts, within_choice, all_kinds, all_fit, all_suit, ChoiceFacts, Parts, Between, BranchFacts, SortEnvironment, pick_facts, choice_layer, expr_layer, branch_layer, facts_of, choice_facts_of, branch_facts_of}
+use Rattle.smv_kinds.specs.Facts.{truth_facts, number_facts, name_facts, negation_facts, not_facts, next_facts, binary_facts, parts_sort, parts_facts, interval_facts, case_facts, within_choice, all_kinds, all_fit, all_suit, ChoiceFacts, Parts, Between, BranchFacts, SortEnvironment, pick_facts, choice_layer, expr_layer, facts_of, choice_facts_of, branch_facts_of}
 use Rattle.smv_meaning.specs.MentionedPaths.{choice_denotations, expr_denotations, denotation_roll, choice_roll, branch_roll}
 use Rattle.smv_kinds.specs.Monotone.{IsKnown, choice_facts, expr_facts, choice_facts_roll, facts_roll, branch_facts_roll}
 use Rattle.smv_kinds.specs.Soundness.{IsTruth, FitsKnown, IsOf, Meets, IsKept, Allows, Shape, BranchShape, single_shape, choice_shape_layer, expr_shape_layer, branch_shape_layer, shape_of, choice_shape, branch_shape}
 use Rattle.smv_kinds.proofs.ValueLemmas.{count_is, operator_transfer, negation_transfer, not_transfer, same_value}
 use Rattle.smv_kinds.proofs.PartLemmas.{node_kept, as_boolean, either_true, part_of}
-use Rattle.smv_kinds.proofs.KeptLemmas.{HasOne, AllKept, first_kept, parts_kept, CaseKept, case_kept, negation_kept, not_kept, next_kept, binary_kept, within_kept}
+use Rattle.smv_kinds.proofs.KeptLemmas.{HasOne, AllKept, first_kept, parts_kept, case_kept, negation_kept, not_kept, next_kept, binary_kept, within_kept}
 
 -- ---- defined values
 

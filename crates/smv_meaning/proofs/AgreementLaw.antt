@@ -1,7 +1,6 @@
 -- Environments that agree on the paths that an expression mentions give it the same value and the same choices.
-use Rattle.std.proofs.Common.{◌≡◌, Bool, List, Option, Some, None, refl, sym, ◌∙◌}
+use Rattle.std.proofs.Common.{◌≡◌, List, sym, ◌∙◌}
 use Rattle.std.specs.List.{Contains}
-use Rattle.fixpoint.specs.OptionOrder.{Le}
 use Rattle.fixpoint.proofs.Laws.{agree as both_ways}
 use Rattle.smv_ast.specs.declared.syntax.Path.{Path}
 use Rattle.smv_ast.specs.declared.syntax.Expr.{Expr}
@@ -9,7 +8,6 @@ use Rattle.smv_meaning.specs.declared.value.Value.{Value}
 use Rattle.smv_meaning.specs.Value.{Name}
 use Rattle.smv_meaning.specs.Mentions.{paths_of}
 use Rattle.smv_meaning.specs.Denotations.{Environment, denotation_of}
-use Rattle.smv_meaning.specs.Layers.{LeDenotation}
 use Rattle.smv_meaning.specs.MentionedPaths.{Shared, mentioned_keeps}
 
 -- two pairs of environments agree on a path

@@ -1,23 +1,19 @@
 -- Items checked by number are items checked on the instances of the table.
-use Rattle.std.proofs.Common.{◌≡◌, ℕ, ◌<◌, ◌+◌, drop, get_or, List, [], ◌∷◌, ◌++◌, length, Option, Some, None, refl, ap, ◌∙◌}
+use Rattle.std.proofs.Common.{◌≡◌, ℕ, ◌<◌, length, ap, ◌∙◌}
 use Rattle.smv_ast.specs.declared.syntax.Expr.{Expr}
 use Rattle.smv_meaning.specs.declared.value.Value.{Value}
-use Rattle.smv_meaning.specs.declared.table.Row.{Row}
 use Rattle.smv_meaning.specs.declared.valuation.RunContext.{RunContext}
 use Rattle.smv_meaning.specs.declared.met_items.ValuedState.{ValuedState}
-use Rattle.smv_meaning.specs.Value.{Name, and_then}
+use Rattle.smv_meaning.specs.Value.{Name}
 use Rattle.smv_meaning.specs.Denotations.{Environment, denotation_of}
 use Rattle.smv_meaning.specs.Values.{environment_in}
-use Rattle.smv_meaning.specs.Runs.{written_state, first_fault, or_else}
+use Rattle.smv_meaning.specs.Runs.{written_state}
 use Rattle.fixpoint.specs.Fixpoints.{entry}
 use Rattle.smv_meaning.specs.Slots.{by_slot}
 use Rattle.smv_meaning.specs.Valuation.{row_environment}
 use Rattle.smv_meaning.specs.Checking.{IsContextOfProgram, instance_at}
 use Rattle.smv_meaning.specs.MetItems.{IsValued, value_row, allows_row, own_row}
-use Rattle.std.specs.List.{flat_map}
 use Rattle.smv_meaning.proofs.NumberLemmas.{row_environment_is, row_value_is}
-use Rattle.smv_meaning.proofs.ValuationLemmas.{get_item}
-use Rattle.smv_meaning.proofs.OrderLemmas.{flat_next}
 
 pub value_is : (context : RunContext) (row : ℕ) (now after : ValuedState) (e : Expr) → IsContextOfProgram context → row < length context.table.rows → IsValued context now → IsValued context after →
     (denotation_of e).value (row_environment context.program.now context.table now.solution.now row) (row_environment context.program.now context.table after.solution.now row) ≡ value_row context row now after e

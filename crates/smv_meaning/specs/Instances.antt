@@ -1,5 +1,5 @@
 -- The entities of a module, and the instances of a program with the bindings of their names.
-use Rattle.std.specs.Prelude.{ℕ, zero, suc, Bool, if◌then◌else◌, List, [], ◌∷◌, ◌++◌, length, nat_lt, map, Option, Some, None, codes, slice_get, find}
+use Rattle.std.specs.Prelude.{ℕ, zero, suc, Bool, if◌then◌else◌, List, [], ◌∷◌, ◌++◌, length, nat_lt, Option, Some, None, codes, slice_get, find}
 use Rattle.std.specs.List.{flat_map}
 use Rattle.std.specs.Str.{bytes_eq}
 use Rattle.smv_ast.specs.PrintedExpr.{joined}

@@ -1,5 +1,5 @@
 -- The instances of a program, grouped by module.
-use Rattle.std.proofs.Common.{◌≡◌, ℕ, ◌+◌, ◌<◌, ◌≤◌, Bool, true, false, ◌&&◌, ◌||◌, List, [], ◌∷◌, ◌++◌, length, get_or, take, map, cond, Option, Some, None, refl, sym, ap, ◌∙◌}
+use Rattle.std.proofs.Common.{◌≡◌, ℕ, ◌+◌, ◌<◌, ◌≤◌, Bool, true, false, ◌&&◌, ◌||◌, List, [], ◌∷◌, ◌++◌, length, get_or, take, map, cond, refl, sym, ap, ◌∙◌}
 use Rattle.std.specs.Prelude.{not, filter}
 use Rattle.std.specs.List.{list_all}
 use Rattle.std.specs.Str.{bytes_eq}
@@ -8,12 +8,9 @@ use Rattle.std.proofs.lemmas.List.Elements.{All-get_or, All-same, All-filter, fi
 use Rattle.smv_ast.specs.declared.program.Program.{Program}
 use Rattle.smv_meaning.specs.declared.table.InstanceTable.{InstanceTable}
 use Rattle.smv_meaning.specs.declared.table.Row.{Row}
-use Rattle.smv_meaning.specs.declared.table.Link.{Link}
 use Rattle.smv_meaning.specs.Value.{Name}
-use Rattle.smv_meaning.specs.Instances.{Instance, called_at, instances}
-use Rattle.smv_meaning.specs.InstanceTable.{instance_of_link, row_instances}
+use Rattle.smv_meaning.specs.Instances.{instances}
 use Rattle.smv_meaning.specs.Checking.{IsTableOfProgram, AreRows, instance_at}
-use Rattle.smv_meaning.proofs.ValuationLemmas.{get_item}
 use Rattle.smv_meaning.proofs.ItemIndexLemmas.{called_is}
 use Rattle.smv_names.specs.Rows.{RowMap, is_of, rows_under, rows_of, AreRowsByModule}
 use Rattle.smv_meaning.specs.InstanceTable.{called_of}

@@ -1,22 +1,18 @@
 -- Paths that are neither known nor a symbol.
 use Rattle.std.specs.Prelude.{◌≡◌, ◌⊎◌, IsTrue, Bool, true, false, not, ◌&&◌, ◌||◌, if◌then◌else◌, List, [], ◌∷◌, Option, Some, None, is_some}
-use Rattle.std.specs.List.{list_all, flat_map}
+use Rattle.std.specs.List.{list_all}
 use Rattle.smv_ast.specs.declared.fault.Fault.{Fault}
 use Rattle.smv_ast.specs.declared.fault.Fault.TheVariants as fault
 use Rattle.smv_ast.specs.declared.syntax.Span.{Span}
 use Rattle.smv_ast.specs.declared.syntax.Path.{Path}
 use Rattle.smv_ast.specs.declared.syntax.Expr.{Expr}
-use Rattle.smv_ast.specs.declared.syntax.SmvType.{SmvType}
-use Rattle.smv_ast.specs.declared.syntax.SmvType.TheVariants as type
-use Rattle.smv_ast.specs.declared.program.Declared.{Declared}
-use Rattle.smv_ast.specs.declared.program.Declared.TheVariants.{Plain, Instance as Submodule}
 use Rattle.smv_ast.specs.declared.program.Module.{Module}
 use Rattle.smv_ast.specs.declared.program.Program.{Program}
 use Rattle.smv_meaning.specs.Value.{Name}
 use Rattle.smv_meaning.specs.Paths.{resolve}
 use Rattle.smv_meaning.specs.Instances.{Instance, module_named, lookup, instances, binding_at}
 use Rattle.smv_meaning.specs.Known.{IsKnown}
-use Rattle.smv_meaning.specs.Items.{Item, Declares, Assigns, exprs_of, items, program_items}
+use Rattle.smv_meaning.specs.Items.{Item, Assigns, exprs_of, items}
 use Rattle.smv_meaning.specs.Values.{is_symbol}
 use Rattle.smv_meaning.specs.Mentions.{paths_of}
 use Rattle.smv_meaning.specs.Runs.{or_else, first_fault, path_text}

@@ -5,7 +5,6 @@ use Rattle.std.specs.Prelude.{find}
 use Rattle.std.specs.List.{flat_map, AllPairs}
 use Rattle.std.specs.Str.{bytes_eq}
 use Rattle.std.proofs.lemmas.Slice.Eq.{bytes_eq-Decides}
-use Rattle.smv_ast.specs.declared.fault.Fault.{Fault}
 use Rattle.smv_ast.specs.declared.syntax.Span.{Span}
 use Rattle.smv_ast.specs.declared.program.Module.{Module}
 use Rattle.smv_ast.specs.declared.program.Program.{Program}

@@ -1,6 +1,6 @@
 -- In a model without a recursive module each module has a rank above those of the modules whose instances it declares, so the
 -- limit on the depth of instances cuts none off.
-use Rattle.std.proofs.Common.{◌≡◌, ℕ, zero, suc, ◌+◌, ◌<◌, ◌≤◌, Bool, true, false, nat_eq, cond, List, [], ◌∷◌, length, map, Option, Some, None, inl, inr, ◌⊎◌, codes, refl, sym, ap, ◌∙◌, subst, arith}
+use Rattle.std.proofs.Common.{◌≡◌, ℕ, zero, suc, ◌+◌, ◌<◌, ◌≤◌, Bool, true, false, nat_eq, cond, List, [], ◌∷◌, length, Option, Some, None, inl, inr, codes, refl, sym, ap, ◌∙◌, subst, arith}
 use Rattle.std.specs.Option.{option_map}
 use Rattle.std.proofs.lemmas.Option.{slice_get-map}
 use Rattle.std.specs.Prelude.{slice_get, unwrap_or}
@@ -18,9 +18,8 @@ use Rattle.fixpoint.specs.Fixpoints.{most}
 use Rattle.graph.specs.Graphs.{among, successors_in, on_cycle}
 use Rattle.graph.proofs.Acyclic.{reached_below, reached_less, not_all}
 use Rattle.smv_meaning.specs.Value.{Name}
-use Rattle.smv_meaning.specs.Instances.{Entity, Inner, Entry, Instance, entity_of, item_entries, formals_from, entries, or_empty, module_named, module_at, goes_deeper, instances}
+use Rattle.smv_meaning.specs.Instances.{Inner, Entry, Instance, entity_of, item_entries, formals_from, entries, or_empty, module_named, module_at, goes_deeper, instances}
 use Rattle.smv_meaning.specs.Items.{Item, Declares, Assigns, Defines, Constrains, items}
-use Rattle.smv_meaning.specs.Runs.{or_else}
 use Rattle.smv_meaning.proofs.DepthLaw.{Ranks, depth_harmless}
 use Rattle.smv_meaning.proofs.MemberLemmas.{In, from_flat, in_flat, in_either}
 use Rattle.smv_meaning.specs.ModuleNumbers.{number_from, number_of}

@@ -1,5 +1,5 @@
 -- A program whose text keeps the rules has its choices where the rules of kinds need them.
-use Rattle.std.proofs.Common.{◌≡◌, Bool, true, false, cond, List, [], ◌∷◌, ◌++◌, Option, Some, None, refl, sym, ap, ◌∙◌}
+use Rattle.std.proofs.Common.{◌≡◌, Bool, true, false, cond, List, [], ◌∷◌, ◌++◌, Some, None, refl, sym, ap, ◌∙◌}
 use Rattle.std.proofs.lemmas.Bool.{or_parts}
 use Rattle.std.specs.Prelude.{find}
 use Rattle.std.specs.List.{list_all, list_any, flat_map}
@@ -7,7 +7,6 @@ use Rattle.std.specs.Str.{bytes_eq}
 use Rattle.smv_ast.specs.declared.syntax.Expr.{Expr}
 use Rattle.smv_ast.specs.declared.program.Module.{Module}
 use Rattle.smv_ast.specs.declared.program.Program.{Program}
-use Rattle.smv_ast.specs.declared.fault.Fault.{Fault}
 use Rattle.smv_meaning.specs.Value.{Name}
 use Rattle.smv_meaning.specs.Instances.{Instance, or_empty, module_at, called_at, instances}
 use Rattle.smv_meaning.specs.Runs.{or_else, first_fault}

@@ -1,5 +1,5 @@
 -- The texts of instances and of variables of a model without a fault of names, whose names contain no dot, are pairwise different.
-use Rattle.std.proofs.Common.{◌≡◌, ◌≢◌, ℕ, zero, suc, ◌⊎◌, inl, inr, Bool, true, false, cond, List, [], ◌∷◌, ◌++◌, map, Some, None, codes, refl, sym, ap, ◌∙◌, subst, arith}
+use Rattle.std.proofs.Common.{◌≡◌, ℕ, zero, suc, ◌⊎◌, inl, inr, Bool, true, false, cond, List, [], ◌∷◌, ◌++◌, map, Some, None, codes, refl, sym, ap, ◌∙◌, subst, arith}
 use Rattle.std.proofs.lemmas.Bool.{or_parts}
 use Rattle.std.specs.Prelude.{find, All}
 use Rattle.std.specs.List.{flat_map}
@@ -8,7 +8,7 @@ use Rattle.smv_ast.specs.PrintedExpr.{joined, each_after}
 use Rattle.smv_ast.specs.declared.program.Module.{Module}
 use Rattle.smv_ast.specs.declared.program.Program.{Program}
 use Rattle.smv_meaning.specs.Value.{Name}
-use Rattle.smv_meaning.specs.Instances.{Entity, Variable, Inner, Defined, Formal, Entry, Instance, Main, Within, entries, or_empty, module_named, module_at, goes_deeper, inner_of, inner_instances, subtree, instances, path_of, instance_text, called_at}
+use Rattle.smv_meaning.specs.Instances.{Entity, Variable, Inner, Defined, Formal, Entry, Instance, Main, Within, entries, or_empty, module_at, goes_deeper, inner_of, inner_instances, subtree, instances, path_of, instance_text, called_at}
 use Rattle.smv_meaning.specs.Runs.{VariableAt, variable_of, variables, path_text, or_else}
 use Rattle.smv_names.specs.Duplicates.{duplicate_fault}
 use Rattle.smv_meaning.specs.NameSets.{no_name}
@@ -17,7 +17,7 @@ use Rattle.smv_meaning.proofs.MemberLemmas.{In, all_in, from_map, from_flat, inn
 use Rattle.smv_types.specs.Checks.{has_dot, AreDotless, HaveDistinctTexts}
 use Rattle.smv_meaning.proofs.FirstFault.{neither_found}
 use Rattle.smv_types.proofs.ApartLemmas.{Apart, pairs_of, apart_of, apart_before, one_source, flat_apart}
-use Rattle.smv_types.proofs.DistinctLemmas.{last_name, inner_named, found_apart, instances_apart}
+use Rattle.smv_types.proofs.DistinctLemmas.{inner_named, found_apart, instances_apart}
 
 -- ---- joined names
 

@@ -1,17 +1,11 @@
 -- The result of a passed check.
-use Rattle.std.proofs.Common.{◌≡◌, ◌≢◌, ℕ, ◌<◌, List, length, map, AllPairs, None, sym, ap, ◌∙◌, subst, get_or}
+use Rattle.std.proofs.Common.{◌≡◌, ◌≢◌, ℕ, List, length, map, AllPairs, None, sym, ap, ◌∙◌, subst}
 use Rattle.std.proofs.lemmas.List.{length-map}
 use Rattle.smv_ast.specs.declared.program.Program.{Program}
-use Rattle.smv_meaning.specs.declared.table.Row.{Row}
 use Rattle.smv_meaning.specs.declared.table.InstanceTable.{InstanceTable}
-use Rattle.smv_meaning.specs.Instances.{Instance, instance_text, path_of, instances}
-use Rattle.smv_meaning.specs.Runs.{path_text}
+use Rattle.smv_meaning.specs.Instances.{Instance, instances}
 use Rattle.smv_meaning.specs.ItemIndex.{items_at}
-use Rattle.smv_meaning.specs.RunCheck.{text_of_instance}
 use Rattle.smv_meaning.specs.Checking.{IsTableOfProgram, AreRows, instance_at}
-use Rattle.smv_meaning.specs.Valuation.{AreLinked, ArePathTexts}
-use Rattle.smv_meaning.proofs.RunLemmas.{instance_text_is}
-use Rattle.smv_meaning.proofs.ValuationLemmas.{get_item}
 use Rattle.smv_names.specs.NamesFault.{names_fault}
 use Rattle.smv_shape.specs.Shape.{shape_fault}
 use Rattle.smv_meaning.specs.Faults.{ReportsFirst}

@@ -1,4 +1,4 @@
-use Rattle.std.proofs.Common.{◌≡◌, ℕ, Option, Some, None, sym, ap, ◌∙◌, subst, IfOk}
+use Rattle.std.proofs.Common.{◌≡◌, ℕ, Option, sym, ap, ◌∙◌, subst, IfOk}
 use Rattle.smv_meaning.specs.declared.value.Value.{Value}
 use Rattle.fixpoint.specs.Fixpoints.{entry}
 use Rattle.smv_meaning.specs.Value.{and_then}
