@@ -83,7 +83,7 @@ impl Log {
         requires right { IsRupStep self.old.axioms (live_lines self.old.lines) clause.now
             hints.now }
 
-        // The clause holds no literal of a live_lines unit clause beside others.
+        // The clause holds no literal of a live unit clause beside others.
         requires plain { HoldsUnit (live_lines self.old.lines) clause.now → ⊥ }
         ensures ok { IfOk result (Derives self.old clause.now hints.now self.new) }
         ensures err { OnErr result (self.new ≡ self.old) }
@@ -109,7 +109,7 @@ impl Log {
 
     /// Retires the derived line of this number: no later line may use it. It takes no memory.
     pub fn retire(&mut self, id: u32)
-        // The line stands, and holds the literal of a live_lines unit clause beside others.
+        // The line stands, and holds the literal of a live unit clause beside others.
         requires { IsRetirable (live_lines self.old.lines) id }
         ensures { Retires self.old id self.new }
     {

@@ -377,13 +377,7 @@ impl Arena {
             (Contains (clauses_of self.now.stored) (lit ∷ []) → ⊥) }
     {
         let _ = &self.alloc;
-        find_unit_in_list(
-            &self.clauses,
-            &self.watched,
-            &self.links,
-            &self.heads,
-            lit,
-        )
+        find_unit_in_list(&self.clauses, &self.watched, &self.links, &self.heads, lit)
     }
 
     /// Goes through the clauses that watch the literal that the entry at the head of the queue made

@@ -2,7 +2,7 @@ use Rattle.std.proofs.Common.{◌≡◌, ◌&&◌, ◌≤◌, ℕ, Bool, true, f
 use Rattle.std.proofs.lemmas.List.{take_all}
 use Rattle.sat_arena.specs.Trails.{marked}
 use Rattle.sat_search.specs.Assumed.{assumed}
-use Rattle.sat_search.proofs.assumption_set.remove_all.Goals as goal
+use Rattle.sat_search.proofs.literal_set.remove_all.Goals as goal
 
 neither : (b : Bool) → (b && not b) ≡ false
 neither true = refl

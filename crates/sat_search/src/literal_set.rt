@@ -1,4 +1,4 @@
-//! The set of the assumptions of a search.
+//! A set of literals that is filled again and again.
 ghost use Rattle.std.specs.Prelude.{◌≡◌, ℕ, ◌+◌, ◌*◌, ◌≤◌, ◌<◌, ◌^◌, [], false, All, length, OnOk};
 ghost use Rattle.sat_arena.specs.Trails.{marked, IsGrown};
 ghost use Rattle.sat_search.specs.Assumed.{assumed, HasFlagsOf};
@@ -13,12 +13,12 @@ use std::marker::Model;
 ///
 /// Contracts see the literals.
 #[derive(Drop)]
-pub struct AssumptionSet {
+pub struct LiteralSet {
     flags: Vec<bool>,
     lits: Vec<Lit>,
 }
 
-impl Model for AssumptionSet {
+impl Model for LiteralSet {
     ghost use Rattle.std.specs.Prelude.{ℕ, List};
     ghost use Rattle.sat_search.specs.Assumed.{HasFlagsOf};
 
@@ -29,12 +29,12 @@ impl Model for AssumptionSet {
     ghost invariant = { λ s. HasFlagsOf s.flags.items s.lits.items };
 }
 
-impl AssumptionSet {
+impl LiteralSet {
     /// The set of no literals.
-    pub fn new(alloc: Global) -> AssumptionSet
+    pub fn new(alloc: Global) -> LiteralSet
         ensures { result ≡ [] }
     {
-        AssumptionSet {
+        LiteralSet {
             flags: Vec::new(alloc),
             lits: Vec::new(alloc),
         }

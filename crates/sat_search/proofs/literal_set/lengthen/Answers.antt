@@ -1,6 +1,6 @@
 use Rattle.std.proofs.Common.{◌≡◌, ◌≤◌, ◌<◌, ◌++◌, ℕ, Bool, false, List, [], ◌∷◌, take, replicate, length, get_or, arith, ap, ◌∙◌, refl, zero, suc}
 use Rattle.std.proofs.lemmas.List.{take_all}
-use Rattle.sat_search.proofs.assumption_set.lengthen.Goals as goal
+use Rattle.sat_search.proofs.literal_set.lengthen.Goals as goal
 
 falses : (n i : ℕ) → get_or (replicate n false) i false ≡ false
 falses zero i = refl

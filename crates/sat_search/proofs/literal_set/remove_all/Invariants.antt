@@ -1,7 +1,7 @@
 use Rattle.std.proofs.Common.{◌≡◌, ◌&&◌, ℕ, length, take, not}
 use Rattle.sat_arena.specs.Trails.{marked}
 use Rattle.sat_search.specs.Assumed.{assumed}
-use Rattle.sat_search.proofs.assumption_set.remove_all.Given as goal
+use Rattle.sat_search.proofs.literal_set.remove_all.Given as goal
 
 abbrev pub invariant-loop-lit : goal.invariant-loop-lit
 invariant-loop-lit l = record {

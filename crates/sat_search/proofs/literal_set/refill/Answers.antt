@@ -1,5 +1,5 @@
 use Rattle.std.proofs.Common.{ℕ, ◌<◌, ◌+◌, ◌*◌, arith}
-use Rattle.sat_search.proofs.assumption_set.refill.Goals as goal
+use Rattle.sat_search.proofs.literal_set.refill.Goals as goal
 
 pub insert_all-requires-clause-room : goal.insert_all-requires-clause-room
 insert_all-requires-clause-room c k d within =
