@@ -64,5 +64,7 @@ fn derives_and_retires(rt: HostRuntime) -> Result<(), Fail> {
     assert_eq!(rt; log.hints(2), [Id::Axiom(1)].as_slice());
     assert_eq!(rt; log.retired(1), Some(2));
     assert_eq!(rt; log.retired(2), None);
+    assert_eq!(rt; log.standing(1), 2);
+    assert_eq!(rt; log.standing(2), 2);
     Ok(())
 }

@@ -15,4 +15,5 @@ pub mod StrictReading
 pub mod StrictTexts
 pub mod ModelAnswers
 pub mod Reports
+pub mod NamedLemmas
 mod TextExamples

@@ -1,16 +1,12 @@
 -- Faults of names, and feature models, of small texts.
-use Rattle.std.proofs.Common.{◌≡◌, ℕ, List, [], ◌∷◌, Option, Some, None, refl, ap}
+use Rattle.std.proofs.Common.{◌≡◌, ℕ, List, [], ◌∷◌, Option, Some, None, refl}
 use Rattle.std.specs.Prelude.{codes}
 use Rattle.smv_ast.specs.declared.syntax.Span.{Span}
-use Rattle.smv_ast.specs.declared.syntax.Expr.{Expr}
 use Rattle.smv_ast.specs.declared.syntax.Expr.TheVariants as e
 use Rattle.smv_ast.specs.declared.model.GroupKind.TheVariants as kind
 use Rattle.smv_ast.specs.declared.model.ModelLine.TheVariants as line
-use Rattle.smv_ast.specs.declared.model.FeatureModel.{FeatureModel}
-use Rattle.smv_ast.specs.declared.fault.Fault.{Fault}
 use Rattle.smv_ast.specs.declared.fault.Fault.TheVariants as fault
-use Rattle.feature_model.specs.NameFaults.{text_fault, path_fault}
-use Rattle.feature_model.specs.NameSets.{no_name, and_names}
+use Rattle.feature_model.specs.NameFaults.{text_fault}
 use Rattle.feature_model.specs.ModelOfText.{model_of}
 use Rattle.feature_model.specs.declared.text.FeatureName.{FeatureName}
 use Rattle.feature_model.specs.declared.text.TextLine.{TextLine}

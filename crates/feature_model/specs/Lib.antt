@@ -15,3 +15,4 @@ pub mod TextGrammar
 pub mod TextReaders
 pub mod TextAnswer
 pub mod ModelAnswer
+pub mod NamedProducts

@@ -6,6 +6,7 @@ mod copies;
 mod finding;
 mod lookahead;
 mod model_reader;
+mod named;
 mod names;
 mod numbering;
 mod partial_product;
@@ -19,5 +20,7 @@ mod validity;
 
 pub use conjuncts::formula;
 pub use model_reader::read_model;
+pub use named::{has_feature, named_product, product_names};
+pub use names::is_reserved;
 pub use search::first_valid;
-pub use validity::is_valid;
+pub use validity::{feature_of, is_valid};

@@ -29,7 +29,8 @@ fn insert_name<'a>(declared: &mut HashSet<&'a str>, name: &'a Text) -> Result<()
     Ok(())
 }
 
-fn is_reserved(name: &str) -> bool
+/// Whether a name is kept for the lift: it begins with `fsmv_`.
+pub fn is_reserved(name: &str) -> bool
     ensures { result ≡ spec.is_reserved name.now }
 {
     name.as_bytes().starts_with(b"fsmv_")

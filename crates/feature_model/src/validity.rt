@@ -10,10 +10,17 @@ use crate::sets::{has, has_number};
 use smv_ast::{Expr, FeatureModel, GroupKind, ModelLine, Op, Product, Text};
 
 /// The number of the feature of this name.
+pub fn number_of(names: &[Text], name: &str) -> Option<usize>
+    ensures { result ≡ constraints.feature_of names.now name.now }
+{
+    names.iter().position(|n| n.is(name))
+}
+
+/// The same, of a name that is a `Text`.
 pub fn feature_of(names: &[Text], name: &Text) -> Option<usize>
     ensures { result ≡ constraints.feature_of names.now name.now }
 {
-    names.iter().position(|n| n.is(name.as_str()))
+    number_of(names, name.as_str())
 }
 
 /// The value of a path: of a single name, whether the product has the feature of that name.

@@ -1,10 +1,6 @@
-pub mod ListLemmas
-pub mod AssignLemmas
-pub mod DeclaredLemmas
-pub mod ImposeLemmas
-pub mod ApplyLemmas
 pub mod WordLemmas
-pub mod FeatureRules
 pub mod OutputLemmas
-pub mod ErrorLemmas
+pub mod InputLemmas
+pub mod TextLemmas
+pub mod PlanLemmas
 pub mod OneAnswer

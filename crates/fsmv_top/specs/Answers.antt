@@ -4,7 +4,8 @@ use Rattle.fsmv_outside.specs.Count.{Rose}
 use Rattle.fsmv_outside.specs.Writing.{with_piece, WritesPrefix}
 use Rattle.fsmv_top.specs.declared.status.Status.{Status}
 use Rattle.fsmv_top.specs.declared.status.Status.TheVariants as status
-use Rattle.fsmv_top.specs.Plan.{Held, IsPlan}
+use Rattle.fsmv_top.specs.Input.{Held}
+use Rattle.fsmv_top.specs.Plan.{IsPlan}
 
 -- the text before and after the call, where the sink gives it, and the counts of failed writes
 pub record Written : Type 0 where

@@ -1,10 +1,9 @@
-pub mod Lists
-pub mod UsedNames
-pub mod Impose
 pub mod Words
-pub mod Refusals
+pub mod Input
+pub mod InputErrors
+pub mod ReservedNames
+pub mod FeatureNames
 pub mod Weaving
-pub mod WeaveErrors
+pub mod Refusals
 pub mod Plan
 pub mod Answers
-pub mod FeatureText

@@ -2,6 +2,7 @@
 use Rattle.std.specs.Prelude.{ℕ, List, [], ◌∷◌, ◌++◌, Option, Some, None, codes}
 use Rattle.std.specs.Fmt.{decimal}
 use Rattle.smv_ast.specs.PrintedExpr.{each_after}
+use Rattle.feature_model.specs.NamedProducts.{printed_product}
 use Rattle.smv_ast.specs.declared.syntax.Span.{Span}
 use Rattle.smv_ast.specs.declared.fault.Fault.{Fault}
 use Rattle.smv_ast.specs.declared.fault.Fault.TheVariants as fault
@@ -88,55 +89,57 @@ fault_span (fault.NoSpec at) = at
 fault_span (fault.TooDeep at cost) = at
 fault_span fault.NoMemory = None
 
--- the values of a fault; a product is the given text
-abbrev pub fault_kept : List ℕ → Fault → List (List ℕ)
-fault_kept product (fault.Syntax at) = []
-fault_kept product (fault.LeftOut at word) = word ∷ []
-fault_kept product (fault.WideNumber at) = []
-fault_kept product (fault.TooNested at) = []
-fault_kept product (fault.TooLong at) = []
-fault_kept product (fault.ReservedName at name) = name ∷ []
-fault_kept product (fault.DuplicateFeature at name) = name ∷ []
-fault_kept product (fault.UnknownFeature at name) = name ∷ []
-fault_kept product (fault.TooManyFeatures at count) = decimal count ∷ []
-fault_kept product (fault.DuplicateText at name) = name ∷ []
-fault_kept product (fault.FeatureNotInModel at name) = name ∷ []
-fault_kept product (fault.NoProduct at) = []
-fault_kept product (fault.NotValid at word) = word ∷ []
-fault_kept product (fault.RequireMissing at feature name bits) = feature ∷ name ∷ product ∷ []
-fault_kept product (fault.RequireType at feature name) = feature ∷ name ∷ []
-fault_kept product (fault.IntroduceClash at feature name) = feature ∷ name ∷ []
-fault_kept product (fault.IntroducedInstance at feature name) = feature ∷ name ∷ []
-fault_kept product (fault.IntroducedAssign at feature name) = feature ∷ name ∷ []
-fault_kept product (fault.ImposeTarget at name) = name ∷ []
-fault_kept product (fault.ImposeKind at name) = name ∷ []
-fault_kept product (fault.TreatTarget at path) = path ∷ []
-fault_kept product (fault.UnknownName at path) = path ∷ []
-fault_kept product (fault.UnknownModule at name) = name ∷ []
-fault_kept product (fault.RecursiveModule at name) = name ∷ []
-fault_kept product (fault.ArgumentCount at name) = name ∷ []
-fault_kept product (fault.DuplicateName at name) = name ∷ []
-fault_kept product (fault.KindMismatch at) = []
-fault_kept product (fault.EmptyRange at) = []
-fault_kept product (fault.NegativeMod at) = []
-fault_kept product (fault.ChoicePlace at) = []
-fault_kept product (fault.NextPlace at) = []
-fault_kept product (fault.DoubleAssign at name) = name ∷ []
-fault_kept product (fault.ParameterAssign at name) = name ∷ []
-fault_kept product (fault.CyclicDefine at cycle) = cycle ∷ []
-fault_kept product (fault.TooLarge at) = []
-fault_kept product (fault.NoSpec at) = []
-fault_kept product (fault.TooDeep at cost) = decimal cost ∷ []
-fault_kept product fault.NoMemory = []
+-- the values of a fault; a product is given by the names of its features
+abbrev pub fault_kept : List (List ℕ) → Fault → List (List ℕ)
+fault_kept names (fault.Syntax at) = []
+fault_kept names (fault.LeftOut at word) = word ∷ []
+fault_kept names (fault.WideNumber at) = []
+fault_kept names (fault.TooNested at) = []
+fault_kept names (fault.TooLong at) = []
+fault_kept names (fault.ReservedName at name) = name ∷ []
+fault_kept names (fault.DuplicateFeature at name) = name ∷ []
+fault_kept names (fault.UnknownFeature at name) = name ∷ []
+fault_kept names (fault.TooManyFeatures at count) = decimal count ∷ []
+fault_kept names (fault.DuplicateText at name) = name ∷ []
+fault_kept names (fault.FeatureNotInModel at name) = name ∷ []
+fault_kept names (fault.NoProduct at) = []
+fault_kept names (fault.NotValid at word) = word ∷ []
+fault_kept names (fault.RequireMissing at feature name product) = feature ∷ name ∷
+    printed_product names product ∷ []
+fault_kept names (fault.RequireType at feature name) = feature ∷ name ∷ []
+fault_kept names (fault.IntroduceClash at feature name) = feature ∷ name ∷ []
+fault_kept names (fault.IntroducedInstance at feature name) = feature ∷ name ∷ []
+fault_kept names (fault.IntroducedAssign at feature name) = feature ∷ name ∷ []
+fault_kept names (fault.ImposeTarget at name) = name ∷ []
+fault_kept names (fault.ImposeKind at name) = name ∷ []
+fault_kept names (fault.TreatTarget at path) = path ∷ []
+fault_kept names (fault.UnknownName at path) = path ∷ []
+fault_kept names (fault.UnknownModule at name) = name ∷ []
+fault_kept names (fault.RecursiveModule at name) = name ∷ []
+fault_kept names (fault.ArgumentCount at name) = name ∷ []
+fault_kept names (fault.DuplicateName at name) = name ∷ []
+fault_kept names (fault.KindMismatch at) = []
+fault_kept names (fault.EmptyRange at) = []
+fault_kept names (fault.NegativeMod at) = []
+fault_kept names (fault.ChoicePlace at) = []
+fault_kept names (fault.NextPlace at) = []
+fault_kept names (fault.DoubleAssign at name) = name ∷ []
+fault_kept names (fault.ParameterAssign at name) = name ∷ []
+fault_kept names (fault.CyclicDefine at cycle) = cycle ∷ []
+fault_kept names (fault.TooLarge at) = []
+fault_kept names (fault.NoSpec at) = []
+fault_kept names (fault.TooDeep at cost) = decimal cost ∷ []
+fault_kept names fault.NoMemory = []
 
 -- `FILE OFFSET`, or `- -` without a span
 abbrev pub printed_span : Option Span → List ℕ
 printed_span None = codes "- -"
 printed_span (Some at) = decimal at.file ++ codes " " ++ decimal at.at
 
--- `refused NAME FILE OFFSET KEPT`
-abbrev pub refusal_line : List ℕ → Fault → List ℕ
-refusal_line product f = codes "refused " ++ fault_name f ++ codes " " ++ printed_span (fault_span f) ++ each_after (codes " ") (fault_kept product f) ++ codes "\n"
+-- `refused NAME FILE OFFSET KEPT`, where the features of the feature model have these names
+abbrev pub refusal_line : List (List ℕ) → Fault → List ℕ
+refusal_line names f = codes "refused " ++ fault_name f ++ codes " " ++ printed_span (fault_span f)
+    ++ each_after (codes " ") (fault_kept names f) ++ codes "\n"
 
 -- `fault read FILE`
 abbrev pub read_fault_line : ℕ → List ℕ

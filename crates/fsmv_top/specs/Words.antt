@@ -1,16 +1,24 @@
 -- The words of a command.
-use Rattle.std.specs.Prelude.{◌≡◌, ℕ, Bool, ◌==◌, List, [], ◌∷◌, codes}
-use Rattle.std.specs.List.{list_any, slice_split}
-use Rattle.std.specs.Str.{bytes_eq}
+use Rattle.std.specs.Prelude.{ℕ, ◌==◌, List, [], ◌∷◌, ◌++◌, map, codes, string_bytes}
+use Rattle.std.specs.List.{slice_split}
+use Rattle.fsmv_top.specs.declared.words.WeaveWords.{WeaveWords}
 
--- `weave MODEL FM FEATURE --product LIST`
-abbrev pub IsWeave : List (List ℕ) → List ℕ → List ℕ → List ℕ → List ℕ → Type 0
-IsWeave words base model feature product = words ≡ codes "weave" ∷ base ∷ model ∷ feature ∷ codes "--product" ∷ product ∷ []
+-- the files and the product that the words of `weave` name
+pub record Weave : Type 0 where
+  pub base : List ℕ
+  pub model : List ℕ
+  pub features : List (List ℕ)
+  pub product : List ℕ
 
--- a list of names, split at its commas
-abbrev pub read_exprs : List ℕ → List (List ℕ)
-read_exprs = slice_split (λ b. b == 44)
+-- the words as texts
+abbrev pub weave_view : WeaveWords → Weave
+weave_view w = record
+    { base = w.base.now; model = w.model.now; features = map string_bytes w.features.now; product = w.product.now }
 
--- whether one of the names is this one
-abbrev pub lists : List ℕ → List ℕ → Bool
-lists product name = list_any (λ read_expr. bytes_eq read_expr name) (read_exprs product)
+-- `weave MODEL FM [FEATURES..] --product LIST`
+abbrev pub weave_words : Weave → List (List ℕ)
+weave_words w = codes "weave" ∷ w.base ∷ w.model ∷ (w.features ++ codes "--product" ∷ w.product ∷ [])
+
+-- the names of a list, which commas separate
+abbrev pub listed_names : List ℕ → List (List ℕ)
+listed_names = slice_split (λ b. b == 44)

@@ -2,10 +2,12 @@
 #![tactic(auto)]
 
 mod command;
-mod feature_text;
-mod integration;
+mod feature_names;
+mod input;
 mod output;
+mod plan;
 mod refusal;
+mod reserved;
 mod status;
 mod weave;
 mod words;

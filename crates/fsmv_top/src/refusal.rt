@@ -3,10 +3,12 @@
 ghost use Rattle.std.specs.Prelude.{◌≡◌, ◌++◌, codes, IfOk, OnOk, string_bytes};
 ghost use Rattle.std.specs.Fmt.{decimal};
 ghost use Rattle.smv_ast.specs.PrintedExpr.{each_after};
+ghost use Rattle.feature_model.specs.NamedProducts.{printed_product};
 ghost use Rattle.fsmv_top.specs.Refusals as spec;
 
+use feature_model::product_names;
 use itoa::Buffer;
-use smv_ast::{Fault, NoMemory, Span};
+use smv_ast::{Fault, NoMemory, Product, Span, Text, print_joined};
 use std::alloc::{AllocError, Global};
 
 fn fault_name(fault: &Fault) -> &'static str
@@ -113,22 +115,43 @@ fn push_word(out: &mut String, word: &str) -> Result<(), AllocError>
     out.push_str(word)
 }
 
-fn push_kept(out: &mut String, product: &str, fault: &Fault) -> Result<(), AllocError>
+fn push_product(
+    out: &mut String,
+    alloc: Global,
+    names: &[Text],
+    product: Product,
+) -> Result<(), NoMemory>
     ensures { OnOk result (string_bytes out.new
-        ≡ string_bytes out.old ++ each_after (codes " ") (spec.fault_kept product.now fault.now)) }
+        ≡ string_bytes out.old ++ (codes " " ++ printed_product names.now product)) }
+{
+    let chosen = product_names(alloc, names, product)?;
+    out.push_str(" ")?;
+    print_joined(out, ",", chosen.as_slice())?;
+    Ok(())
+}
+
+fn push_kept(out: &mut String, alloc: Global, names: &[Text], fault: &Fault) -> Result<(), NoMemory>
+    ensures { OnOk result (string_bytes out.new
+        ≡ string_bytes out.old ++ each_after (codes " ") (spec.fault_kept names.now fault.now)) }
 {
     match fault {
-        Fault::RequireMissing { feature, name, .. } => {
+        Fault::RequireMissing {
+            feature,
+            name,
+            product,
+            ..
+        } => {
             push_word(out, feature.as_str())?;
             push_word(out, name.as_str())?;
-            push_word(out, product)
+            push_product(out, alloc, names, *product)
         }
         Fault::RequireType { feature, name, .. }
         | Fault::IntroduceClash { feature, name, .. }
         | Fault::IntroducedInstance { feature, name, .. }
         | Fault::IntroducedAssign { feature, name, .. } => {
             push_word(out, feature.as_str())?;
-            push_word(out, name.as_str())
+            push_word(out, name.as_str())?;
+            Ok(())
         }
         Fault::LeftOut { word: name, .. }
         | Fault::ReservedName { name, .. }
@@ -147,10 +170,10 @@ fn push_kept(out: &mut String, product: &str, fault: &Fault) -> Result<(), Alloc
         | Fault::DuplicateName { name, .. }
         | Fault::DoubleAssign { name, .. }
         | Fault::ParameterAssign { name, .. }
-        | Fault::CyclicDefine { cycle: name, .. } => push_word(out, name.as_str()),
+        | Fault::CyclicDefine { cycle: name, .. } => Ok(push_word(out, name.as_str())?),
         Fault::TooManyFeatures { count, .. } | Fault::TooDeep { cost: count, .. } => {
             out.push_str(" ")?;
-            push_number(out, *count)
+            Ok(push_number(out, *count)?)
         }
         Fault::Syntax { .. }
         | Fault::WideNumber { .. }
@@ -179,15 +202,15 @@ fn push_span(out: &mut String, span: Option<Span>) -> Result<(), AllocError>
     push_number(out, at.at as u64)
 }
 
-/// The line of a refusal; `product` is the text of a product that the fault has.
-pub fn refusal_line(alloc: Global, product: &str, fault: &Fault) -> Result<String, NoMemory>
-    ensures { IfOk result (λ line. string_bytes line ≡ spec.refusal_line product.now fault.now) }
+/// The line of a refusal, where the feature model's features have these names.
+pub fn refusal_line(alloc: Global, names: &[Text], fault: &Fault) -> Result<String, NoMemory>
+    ensures { IfOk result (λ line. string_bytes line ≡ spec.refusal_line names.now fault.now) }
 {
     let mut out = String::from_str(alloc, "refused ")?;
     out.push_str(fault_name(fault))?;
     out.push_str(" ")?;
     push_span(&mut out, fault_span(fault))?;
-    push_kept(&mut out, product, fault)?;
+    push_kept(&mut out, alloc, names, fault)?;
     out.push_str("\n")?;
     Ok(out)
 }

@@ -1,198 +1,148 @@
 //! The command `weave`: from files to the text of one product.
 
-ghost use Rattle.std.specs.Prelude.{◌≡◌, ℕ, ◌+◌, ◌≤◌, ◌<◌, ◌^◌, [], IsTrue, IfOk, IfErr, length, vec_len, string_bytes, MatchResult};
-ghost use Rattle.smv_ast.specs.PrintedProgram.{printed_program};
-ghost use Rattle.smv_parse.specs.Answer.{Reads, Refuses};
-ghost use Rattle.fsmv_top.specs.FeatureText.{ReadsFeature, RefusesFeature};
-ghost use Rattle.fsmv_top.specs.Words.{lists};
+ghost use Rattle.std.specs.Prelude.{◌≡◌, ◌≤◌, None, IfOk, IfErr, string_bytes};
+ghost use Rattle.feature_model.specs.Validity.{IsValid};
+ghost use Rattle.feature_model.specs.WellFormed.{IsFeatureModel};
+ghost use Rattle.fsmv_top.specs.FeatureNames.{family_fault};
+ghost use Rattle.fsmv_top.specs.Input.{MayRead};
+ghost use Rattle.fsmv_top.specs.Plan.{IsWeavePlan, IsFamilyPlan};
 ghost use Rattle.fsmv_top.specs.Weaving as spec;
-ghost use Rattle.fsmv_top.specs.WeaveErrors as fails;
+ghost use Rattle.fsmv_top.specs.Words.{weave_view};
 
-use crate::feature_text::read_feature;
-use crate::integration::apply_changes;
-use crate::words::{WeaveWords, lists};
-use fsmv_outside::{Files, FilesFault};
-use smv_ast::{Fault, Feature, NoMemory, Program, Span, print_program};
+use crate::feature_names::check_family;
+use crate::input::{InputError, read_family};
+use crate::plan::Plan;
+use crate::status::Status;
+use crate::words::{WeaveWords, listed_names};
+use feature_model::{first_valid, is_valid, named_product};
+use fsmv_outside::Files;
+use integrate::integrate_product;
+use smv_ast::{Family, Fault, FeatureModel, NoMemory, Product, Program, Text, print_program};
 use smv_names::check_names;
-use smv_parse::read_program;
 use std::alloc::Global;
 
-/// The greatest length of a file of a model or a feature, in bytes.
-const MOST_BYTES: u64 = 16_777_216;
-
-/// The reason for which there is no text of a product.
-#[derive(Drop)]
-pub enum WeaveError {
-    /// The input is refused.
-    Refused(Fault),
-    /// The file of this number cannot be read.
-    Unread { file: u32 },
-    /// Memory ran out.
-    NoMemory,
-}
-
-impl From<NoMemory> for WeaveError {
-    ghost use Rattle.std.specs.Prelude.{◌≡◌};
-    ghost use Rattle.fsmv_top.specs.declared.weave.WeaveError.TheVariants as variants;
-
-    ghost from_gives = { λ _ s. s ≡ variants.NoMemory };
-
-    fn from(_: NoMemory) -> WeaveError {
-        WeaveError::NoMemory
-    }
-}
-
-/// The whole content of a file.
-fn read_file<F: Files>(
+/// The valid product that the list names, if there is one.
+fn valid_product(
     alloc: Global,
-    files: &mut F,
-    file: u32,
-    name: &str,
-) -> Result<Vec<u8>, WeaveError>
-    requires { IsTrue (F.may_read files.old name.now) }
-    ensures held_stays { F.held files.new ≡ F.held files.old }
-    ensures may_read_stays { F.may_read files.new ≡ F.may_read files.old }
-    ensures faults_never_fall { F.faults files.old ≤ F.faults files.new }
-    ensures ok { IfOk result (λ bytes. fails.IsRead (F.held files.old name.now) bytes.items) }
-    ensures failed { IfErr result
-        (fails.FailsReading file (F.held files.old name.now) (F.faults files.old)
-        (F.faults files.new)) }
+    model: &FeatureModel,
+    list: &str,
+) -> Result<Option<Product>, NoMemory>
+    requires { IsFeatureModel model.now }
+    ensures { IfOk result (spec.IsChoice model.now list.now) }
 {
-    let mut bytes = Vec::new(alloc);
-    match files.read_all(alloc, name, MOST_BYTES, &mut bytes) {
-        Ok(()) => Ok(bytes),
-        Err(FilesFault::Failed) => Err(WeaveError::Unread { file }),
-        Err(FilesFault::TooLong) => Err(WeaveError::Refused(Fault::TooLong {
-            at: Some(Span { file, at: 0 }),
-        })),
-        Err(FilesFault::NoMemory) => Err(WeaveError::NoMemory),
-    }
-}
-
-/// The base model of file 0.
-fn read_base<F: Files>(alloc: Global, files: &mut F, name: &str) -> Result<Program, WeaveError>
-    requires { IsTrue (F.may_read files.old name.now) }
-    ensures held_stays { F.held files.new ≡ F.held files.old }
-    ensures may_read_stays { F.may_read files.new ≡ F.may_read files.old }
-    ensures faults_never_fall { F.faults files.old ≤ F.faults files.new }
-    ensures ok { IfOk result (spec.HoldsBase (F.held files.old name.now)) }
-    ensures failed { IfErr result
-        (fails.FailsText Refuses 0 (F.held files.old name.now) (F.faults files.old)
-        (F.faults files.new)) }
-{
-    let bytes = read_file(alloc, files, 0, name)?;
-    base_of(alloc, bytes.as_slice())
-}
-
-fn base_of(alloc: Global, bytes: &[u8]) -> Result<Program, WeaveError>
-    requires { length bytes.now ≤ 16777216 }
-    ensures ok { IfOk result (spec.IsBase bytes.now) }
-    ensures failed { IfErr result (fails.IsRefusedText Refuses 0 bytes.now) }
-{
-    match read_program(alloc, 0, bytes) {
-        Ok(reading) => Ok(reading.program),
-        Err(Fault::NoMemory) => Err(WeaveError::NoMemory),
-        Err(fault) => Err(WeaveError::Refused(fault)),
-    }
-}
-
-fn feature_of(alloc: Global, bytes: &[u8]) -> Result<Feature, WeaveError>
-    requires { length bytes.now ≤ 16777216 }
-    ensures ok { IfOk result (ReadsFeature 2 bytes.now) }
-    ensures failed { IfErr result (fails.IsRefusedText RefusesFeature 2 bytes.now) }
-{
-    match read_feature(alloc, 2, bytes) {
-        Ok(feature) => Ok(feature),
-        Err(Fault::NoMemory) => Err(WeaveError::NoMemory),
-        Err(fault) => Err(WeaveError::Refused(fault)),
-    }
-}
-
-/// The feature of file 2.
-fn read_feature_file<F: Files>(
-    alloc: Global,
-    files: &mut F,
-    name: &str,
-) -> Result<Feature, WeaveError>
-    requires { IsTrue (F.may_read files.old name.now) }
-    ensures held_stays { F.held files.new ≡ F.held files.old }
-    ensures may_read_stays { F.may_read files.new ≡ F.may_read files.old }
-    ensures faults_never_fall { F.faults files.old ≤ F.faults files.new }
-    ensures ok { IfOk result (spec.HoldsFeature (F.held files.old name.now)) }
-    ensures failed { IfErr result
-        (fails.FailsText RefusesFeature 2 (F.held files.old name.now) (F.faults files.old)
-        (F.faults files.new)) }
-{
-    let bytes = read_file(alloc, files, 2, name)?;
-    feature_of(alloc, bytes.as_slice())
-}
-
-/// The error for a fault of the input.
-fn error_of(fault: Fault) -> WeaveError
-    ensures { result ≡ fails.error_of fault }
-{
-    match fault {
-        Fault::NoMemory => WeaveError::NoMemory,
-        other => WeaveError::Refused(other),
-    }
-}
-
-/// The base with the feature applied.
-fn applied(alloc: Global, base: Program, feature: Feature) -> Result<Program, WeaveError>
-    ensures { fails.Applies base feature result }
-{
-    let Feature { name, changes, .. } = feature;
-    match apply_changes(alloc, &name, base, changes) {
-        Ok(program) => Ok(program),
-        Err(fault) => Err(error_of(fault)),
-    }
-}
-
-/// The text of the product: the base with the feature applied where the product lists it.
-fn integrate(
-    alloc: Global,
-    base: Program,
-    feature: Feature,
-    product: &str,
-) -> Result<Program, WeaveError>
-    ensures { fails.Integrates base feature product.now result }
-{
-    match check_names(alloc, &base) {
-        Ok(()) => {
-            if lists(product, feature.name.as_str()) {
-                applied(alloc, base, feature)
-            } else {
-                Ok(base)
+    let names = listed_names(alloc, list)?;
+    match named_product(model.names.as_slice(), names.as_slice()) {
+        Some(product) => {
+            if is_valid(model, product) {
+                return Ok(Some(product));
             }
+            Ok(None)
         }
-        Err(fault) => Err(error_of(fault)),
+        None => Ok(None),
     }
 }
 
-/// The canonical text of the product that the words name, or the reason for which there is none.
+/// The valid product that the list names. Some product is valid.
+fn listed_product(alloc: Global, model: &FeatureModel, list: &str) -> Result<Product, Fault>
+    requires model { IsFeatureModel model.now }
+    requires some { spec.HasProduct model.now }
+    ensures ok { IfOk result (spec.IsChosen model.now list.now) }
+    ensures failed { IfErr result (spec.FailsChoice model.now list.now) }
+{
+    match valid_product(alloc, model, list)? {
+        Some(product) => Ok(product),
+        None => Err(Fault::NotValid {
+            at: None,
+            word: Text::from_str(alloc, list)?,
+        }),
+    }
+}
+
+/// The valid product that the list names.
 ///
-/// The base is read before the feature's file is opened; its names are checked once both are read,
-/// whether or not the product lists the feature. The file of the feature model is not opened.
-pub fn weave<F: Files>(
+/// NoProduct where no product is valid; NotValid, with the list, where it names no valid product.
+fn chosen_product(alloc: Global, model: &FeatureModel, list: &str) -> Result<Product, Fault>
+    requires { IsFeatureModel model.now }
+    ensures ok { IfOk result (spec.IsChosen model.now list.now) }
+    ensures failed { IfErr result (spec.FailsChoice model.now list.now) }
+{
+    match first_valid(model, 0, 0) {
+        Some(_) => listed_product(alloc, model, list),
+        None => Err(Fault::NoProduct { at: None }),
+    }
+}
+
+/// The text of a valid product, or the first fault of the base's names or of its features.
+fn checked_text(alloc: Global, family: &Family, product: Product) -> Result<Program, Fault>
+    requires { IsValid family.now.model product }
+    ensures { spec.IsCheckedText family.now product result }
+{
+    match check_names(alloc, &family.base) {
+        Ok(()) => integrate_product(alloc, family, product),
+        Err(fault) => Err(fault),
+    }
+}
+
+/// The text of the product that the list names, where the names of the family have no fault.
+fn text_of_choice(alloc: Global, family: &Family, list: &str) -> Result<Program, Fault>
+    requires model { IsFeatureModel family.now.model }
+    requires sound { family_fault family.now ≡ None }
+    ensures { spec.IsTextOrFault family.now list.now result }
+{
+    match chosen_product(alloc, &family.model, list) {
+        Ok(product) => checked_text(alloc, family, product),
+        Err(fault) => Err(fault),
+    }
+}
+
+/// The text of the product that the list names, or the first fault of the family.
+fn product_text(alloc: Global, family: &Family, list: &str) -> Result<Program, Fault>
+    requires { IsFeatureModel family.now.model }
+    ensures { spec.IsTextOrFault family.now list.now result }
+{
+    match check_family(alloc, family) {
+        Ok(()) => text_of_choice(alloc, family, list),
+        Err(fault) => Err(fault),
+    }
+}
+
+fn family_plan(alloc: Global, family: Family, list: &str) -> Result<Plan, NoMemory>
+    requires { IsFeatureModel family.model }
+    ensures { IfOk result (λ plan. IsFamilyPlan family list.now plan.status
+        (string_bytes plan.text)) }
+{
+    match product_text(alloc, &family, list) {
+        Ok(program) => Ok(Plan {
+            status: Status::Good,
+            text: print_program(alloc, &program)?,
+        }),
+        Err(Fault::NoMemory) => Err(NoMemory),
+        Err(fault) => Plan::refusal(alloc, family.model.names.as_slice(), fault),
+    }
+}
+
+/// The canonical text of the product that the words name, or the line with the reason for which there is none.
+///
+/// Files are read in the order of the words, each before the next is opened; then come the faults of the family, in
+/// this order: reserved names, texts of features, the choice of the product, the names of the base, and the features of
+/// the product as they are applied.
+pub fn weave_plan<F: Files>(
     alloc: Global,
     words: WeaveWords<'_>,
     files: &mut F,
-) -> Result<String, WeaveError>
-    requires base_allowed { IsTrue (F.may_read files.old words.base.now) }
-    requires feature_allowed { IsTrue (F.may_read files.old words.feature.now) }
+) -> Result<Plan, NoMemory>
+    requires allowed { MayRead (F.may_read files.old) (weave_view words) }
     ensures held_stays { F.held files.new ≡ F.held files.old }
     ensures may_read_stays { F.may_read files.new ≡ F.may_read files.old }
     ensures faults_never_fall { F.faults files.old ≤ F.faults files.new }
-    ensures woven { IfOk result
-        (λ text. spec.IsWoven (F.held files.old words.entry.base.now)
-        (F.held files.old words.entry.feature.now) words.entry.product.now (string_bytes text)) }
-    ensures failed { IfErr result
-        (fails.FailsWeaving (F.held files.old words.entry.base.now)
-        (F.held files.old words.entry.feature.now) words.entry.product.now (F.faults files.old)
-        (F.faults files.new)) }
+    ensures plan { IfOk result
+        (λ plan. IsWeavePlan (F.held files.old) (weave_view words.entry) (F.faults files.old)
+        (F.faults files.new) plan.status (string_bytes plan.text)) }
 {
-    let base = read_base(alloc, files, words.base)?;
-    let feature = read_feature_file(alloc, files, words.feature)?;
-    let program = integrate(alloc, base, feature, words.product)?;
-    Ok(print_program(alloc, &program)?)
+    match read_family(alloc, words, files) {
+        Ok(family) => family_plan(alloc, family, words.product),
+        Err(InputError::Refused(fault)) => Plan::refusal(alloc, &[], fault),
+        Err(InputError::Unread { file }) => Plan::read_fault(alloc, file),
+        Err(InputError::NoMemory) => Err(NoMemory),
+    }
 }

@@ -1,11 +1,11 @@
 -- A vertex whose rank is higher than those of its successors is on no cycle.
-use Rattle.std.proofs.Common.{◌≡◌, ℕ, zero, suc, ◌-◌, ◌≤◌, Bool, true, false, ◌||◌, ◌&&◌, not, nat_eq, cond, List, [], ◌∷◌, length, Option, Some, None, refl, ap, subst, arith}
-use Rattle.std.specs.Prelude.{slice_get, nat_lt, if◌then◌else◌, is_some, unwrap_or}
+use Rattle.std.proofs.Common.{◌≡◌, ℕ, zero, suc, ◌-◌, ◌≤◌, Bool, true, false, ◌||◌, nat_eq, cond, List, [], ◌∷◌, length, Option, Some, None, refl, ap, arith}
+use Rattle.std.specs.Prelude.{nat_lt, if◌then◌else◌, is_some, unwrap_or}
 use Rattle.std.specs.List.{find}
 use Rattle.std.proofs.lemmas.Bool.{eqb-true}
 use Rattle.std.proofs.lemmas.Option.{slice_get_past}
 use Rattle.fixpoint.specs.Fixpoints.{known, most}
-use Rattle.graph.specs.Graphs.{if_found, among, leads, reach_step, successors_in, on_cycle}
+use Rattle.graph.specs.Graphs.{if_found, leads, reach_step, successors_in, on_cycle}
 use Rattle.graph.specs.Ranks.{rank_of, are_within, AreRanks, is_above}
 
 -- beyond the graph nothing reaches anything

@@ -1,7 +1,5 @@
 -- The changes of a feature, applied in written order, each to the text as it then is.
 use Rattle.std.specs.Prelude.{ℕ, List, [], ◌∷◌, Option, Some, None, Result, Ok, Err}
-use Rattle.smv_ast.specs.declared.syntax.Span.{Span}
-use Rattle.smv_ast.specs.declared.syntax.Expr.{Expr}
 use Rattle.smv_ast.specs.declared.program.Program.{Program}
 use Rattle.smv_ast.specs.declared.feature.Action.{Action}
 use Rattle.smv_ast.specs.declared.feature.Action.TheVariants.{Impose, Treat}

@@ -1,2 +1,13 @@
 pub mod UsedNames
 pub mod Changes
+pub mod Joined
+pub mod Introductions
+pub mod EqualTypes
+pub mod FeatureFaults
+pub mod Applied
+pub mod ProductText
+pub mod ModuleNames
+pub mod Lookups
+pub mod IntroductionTable
+pub mod Applications
+pub mod SameNames

@@ -1,6 +1,6 @@
 -- The names that a change uses, and the first of them that is unknown. A change may be applied only
 -- where each name that it uses is known.
-use Rattle.std.specs.Prelude.{ℕ, not, if◌then◌else◌, List, [], ◌∷◌, Option, Some, None, find, is_some}
+use Rattle.std.specs.Prelude.{ℕ, not, if◌then◌else◌, List, Option, Some, None, find, is_some}
 use Rattle.std.specs.Option.{option_map, option_or}
 use Rattle.smv_ast.specs.declared.syntax.Span.{Span}
 use Rattle.smv_ast.specs.declared.syntax.Path.{Path}

@@ -1,32 +1,19 @@
 //! Applying the changes of a feature, one after another.
 
-ghost use Rattle.std.specs.Prelude.{◌≡◌, IfOk};
+ghost use Rattle.std.specs.Prelude.{◌≡◌, ◌<◌, ◌≤◌, length};
 ghost use Rattle.integrate_impose.specs.Answers.{Answers};
 ghost use Rattle.integrate.specs.Changes as spec;
 
-use crate::names::{MissingName, first_missing};
+use crate::imposes::{apply_imposes, are_imposes, is_impose};
+use crate::names::first_missing;
+use crate::reports::missing_fault;
 use integrate_impose::impose;
 use integrate_treat::treat;
-use smv_ast::{Action, Change, Fault, NoMemory, Product, Program, Text};
+use smv_ast::{Action, Change, Fault, Product, Program, Text};
 use std::alloc::Global;
 
-fn missing_fault(
-    alloc: Global,
-    feature: &Text,
-    product: Product,
-    missing: MissingName,
-) -> Result<Fault, NoMemory>
-    ensures { IfOk result (λ f. f ≡ spec.missing_fault feature.now product missing) }
-{
-    Ok(Fault::RequireMissing {
-        at: Some(missing.at),
-        feature: feature.try_clone(alloc)?,
-        name: missing.name,
-        product,
-    })
-}
-
-fn act(alloc: Global, program: Program, change: &Change) -> Result<Program, Fault>
+/// The model with the action of the change applied, or the fault of the action.
+pub fn act(alloc: Global, program: Program, change: &Change) -> Result<Program, Fault>
     ensures { Answers (spec.acted change.now change.now.action program) result }
 {
     let called = change.module.as_str();
@@ -69,6 +56,56 @@ fn apply_change(
     }
 }
 
+/// The changes one by one, the names of each judged in the model that it is applied to.
+fn apply_each(
+    alloc: Global,
+    feature: &Text,
+    product: Product,
+    program: Program,
+    changes: &[Change],
+) -> Result<Program, Fault>
+    ensures { Answers (spec.all_changed feature.now product program changes.now) result }
+{
+    let mut program = program;
+    for change in changes {
+        match apply_change(alloc, feature, product, program, change) {
+            Ok(next) => program = next,
+            Err(fault) => return Err(fault),
+        }
+    }
+    Ok(program)
+}
+
+// ---- all changes
+
+/// The number of IMPOSEs that stand first, or 1.
+fn run_length(changes: &[Change]) -> usize
+    requires { 0 < length changes.now }
+    ensures more { 0 < result }
+    ensures within { result ≤ length changes.now }
+{
+    let mut count = 1;
+    while count < changes.len() && is_impose(&changes[0]) && is_impose(&changes[count]) {
+        count += 1;
+    }
+    count
+}
+
+fn apply_run(
+    alloc: Global,
+    feature: &Text,
+    product: Product,
+    program: Program,
+    changes: &[Change],
+) -> Result<Program, Fault>
+    ensures { Answers (spec.all_changed feature.now product program changes.now) result }
+{
+    if changes.len() > 1 && are_imposes(changes) {
+        return apply_imposes(alloc, feature, product, program, changes);
+    }
+    apply_each(alloc, feature, product, program, changes)
+}
+
 /// The model with the changes of a feature applied in order, each to the model as changed so far, or
 /// the fault of the first that cannot be applied. The model is consumed.
 ///
@@ -84,11 +121,14 @@ pub fn apply_changes(
     ensures { Answers (spec.all_changed feature.now product program changes.now) result }
 {
     let mut program = program;
-    for change in changes {
-        match apply_change(alloc, feature, product, program, change) {
-            Ok(next) => program = next,
+    let mut left = changes;
+    while left.len() > 0 {
+        let (run, others) = left.split_at(run_length(left));
+        match apply_run(alloc, feature, product, program, run) {
+            Ok(changed) => program = changed,
             Err(fault) => return Err(fault),
         }
+        left = others;
     }
     Ok(program)
 }

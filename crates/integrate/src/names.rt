@@ -14,10 +14,10 @@ use smv_ast::{Action, Change, Expr, NoMemory, Path, Program, Span, Text, print_j
 use smv_meaning::aliases::aliases_of;
 use smv_meaning::mentions::push_paths;
 use smv_meaning::scope::{Scope, modules_by_name, scopes_of};
+use smv_meaning::symbols::symbols_of;
 use smv_meaning::table::{InstanceTable, instance_table};
 use smv_names::known::{ModuleScope, Resolver, declared_in, is_known};
 use smv_names::rows::RowsByModule;
-use smv_names::symbols::symbols_of;
 use std::alloc::Global;
 
 /// A name that is used and unknown, with its span.
@@ -84,7 +84,7 @@ fn missing_of_paths(
 }
 
 /// The first name of an expression that is missing.
-fn missing_expr(
+pub fn missing_expr(
     alloc: Global,
     module_scope: &ModuleScope,
     e: &Expr,
@@ -187,7 +187,7 @@ fn missing_action(
 }
 
 /// The first missing name of a change in its module, those of its condition first.
-fn missing_in_scope(
+pub fn missing_in_scope(
     alloc: Global,
     module_scope: &ModuleScope,
     change: &Change,

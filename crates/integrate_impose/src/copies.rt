@@ -97,3 +97,10 @@ pub fn copy_expr(alloc: Global, e: &Expr) -> Result<Expr, NoMemory>
         Expr::Pick(choice) => Ok(Expr::Pick(copy_choice(alloc, choice)?)),
     }
 }
+
+/// A copy of the expressions.
+pub fn copy_exprs(alloc: Global, exprs: &[Expr]) -> Result<List<Expr>, NoMemory>
+    ensures { IfOk result (λ copy. copy ≡ exprs.now) }
+{
+    copy_parts(alloc, exprs)
+}

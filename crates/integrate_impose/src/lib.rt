@@ -10,6 +10,7 @@ pub mod guard;
 mod imposition;
 pub mod lists;
 pub mod modules;
+pub mod section_copies;
 pub mod texts;
 mod types;
 mod values;

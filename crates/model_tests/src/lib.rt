@@ -8,6 +8,8 @@ mod flat;
 #[cfg(test)]
 mod graphs;
 #[cfg(test)]
+mod integration;
+#[cfg(test)]
 mod kinds;
 #[cfg(test)]
 mod meaning;

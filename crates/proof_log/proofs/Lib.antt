@@ -1,3 +1,4 @@
 pub mod LiveLemmas
 pub mod SoundLemmas
 pub mod StateLemmas
+pub mod StandingLemmas

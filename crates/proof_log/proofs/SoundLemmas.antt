@@ -50,7 +50,7 @@ IsRedundant-line axioms lines i clause sound is =
     at line (Some count) is e same = inl (subst (HoldsUnit (live_lines lines)) same (sound.retired i count line is e).2)
 
 -- an earlier unit clause stands
-unit_is_live : (axioms : List (List ℕ)) (lines : List Line) (i l : ℕ) → IsSound (log axioms lines) → slice_get (clauses lines) i ≡ Some (l ∷ []) → IsLive (live_lines lines) (l ∷ [])
+pub unit_is_live : (axioms : List (List ℕ)) (lines : List Line) (i l : ℕ) → IsSound (log axioms lines) → slice_get (clauses lines) i ≡ Some (l ∷ []) → IsLive (live_lines lines) (l ∷ [])
 unit_is_live axioms lines i l sound is = elim (IsRedundant-line axioms lines i (l ∷ []) sound is) [
   | inl unit ↦ (let longer : 1 < length (l ∷ []) = unit.longer in absurd (omega arith))
   | inr stands ↦ stands

@@ -24,7 +24,7 @@ pub record IsSound (log : Logged) : Type 0 where
   pub plain : (i j literal : ℕ) (clause : List ℕ) → j < i → slice_get (clauses log.lines) j
       ≡ Some (literal ∷ []) → slice_get (clauses log.lines) i ≡ Some clause
       → Contains clause literal → length clause ≤ 1
-  -- a line was retired after it was derived, and holds the literal of a live_lines unit clause beside others
+  -- a line was retired after it was derived, and holds the literal of a live unit clause beside others
   pub retired : (i count : ℕ) (line : Line) → slice_get log.lines i ≡ Some line → line.retired
       ≡ Some count → (i < count) × (count ≤ length log.lines)
       × HoldsUnit (live_lines log.lines) line.clause

@@ -1,3 +1,4 @@
 pub mod Logged
 pub mod IsSound
 pub mod LogState
+pub mod Standing

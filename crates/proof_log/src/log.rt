@@ -2,9 +2,10 @@
 ghost use Rattle.std.specs.Prelude.{◌≡◌, ◌≤◌, ◌++◌, [], length, Some, IfOk, OnOk, OnErr};
 ghost use Rattle.std.specs.Option.{option_map};
 ghost use Rattle.sat_lits.specs.Steps.{numbered, IsRupStep, HoldsUnit, IsRetirable};
+ghost use Rattle.proof_log.specs.Standing.{lesser, IsFirstUnit};
 
 use fsmv_base::{Id, List, NoMemory};
-use sat_lits::{Clause, ClauseTable};
+use sat_lits::{Clause, ClauseTable, Lit};
 use std::alloc::Global;
 use std::marker::Model;
 
@@ -48,6 +49,7 @@ impl Model for Log {
 impl Log {
     ghost use Rattle.proof_log.specs.Logged.{live_lines, Derives, Retires};
     ghost use Rattle.proof_log.specs.IsSound.{IsSound};
+    ghost use Rattle.proof_log.specs.Standing.{IsStanding};
 
     /// The log without axioms and lines.
     pub fn new(alloc: Global) -> Log
@@ -81,7 +83,7 @@ impl Log {
         requires right { IsRupStep self.old.axioms (live_lines self.old.lines) clause.now
             hints.now }
 
-        // The clause holds no literal of a live_lines unit clause beside others.
+        // The clause holds no literal of a live unit clause beside others.
         requires plain { HoldsUnit (live_lines self.old.lines) clause.now → ⊥ }
         ensures ok { IfOk result (Derives self.old clause.now hints.now self.new) }
         ensures err { OnErr result (self.new ≡ self.old) }
@@ -107,7 +109,7 @@ impl Log {
 
     /// Retires the derived line of this number: no later line may use it. It takes no memory.
     pub fn retire(&mut self, id: u32)
-        // The line stands, and holds the literal of a live_lines unit clause beside others.
+        // The line stands, and holds the literal of a live unit clause beside others.
         requires { IsRetirable (live_lines self.old.lines) id }
         ensures { Retires self.old id self.new }
     {
@@ -145,6 +147,20 @@ impl Log {
         self.lines[id as usize - 1].hints.as_slice()
     }
 
+    /// The number of the line that holds in the place of the derived line of this number: the same where
+    /// that line stands, and else the first unit clause whose literal it holds. It takes no memory.
+    pub fn standing(&self, id: u32) -> u32
+        requires numbered { 1 ≤ id }
+        requires derived { id ≤ length self.now.lines }
+        ensures { IsStanding self.now.lines id result }
+    {
+        let line = &self.lines[id as usize - 1];
+        match line.retired {
+            None => id,
+            Some(_) => first_unit(&self.numbers, line.clause.lits()).unwrap_or(id),
+        }
+    }
+
     /// How many lines had been derived when the line of this number was retired, and `None` where it
     /// stands.
     pub fn retired(&self, id: u32) -> Option<u32>
@@ -153,6 +169,28 @@ impl Log {
         ensures { option_map (λ line. line.retired) (numbered self.now.lines id) ≡ Some result }
     {
         self.lines[id as usize - 1].retired
+    }
+}
+
+/// The least number that the table gives a unit clause of one of the literals.
+fn first_unit(numbers: &ClauseTable, lits: &[Lit]) -> Option<u32>
+    ensures { IsFirstUnit numbers.now lits.now result }
+{
+    let mut first = None;
+    for lit in lits {
+        first = earlier(first, numbers.get(&[*lit]));
+    }
+    first
+}
+
+/// The lesser of two numbers, where they are there.
+fn earlier(one: Option<u32>, other: Option<u32>) -> Option<u32>
+    ensures { result ≡ lesser one other }
+{
+    match (one, other) {
+        (Some(first), Some(second)) => Some(first.min(second)),
+        (Some(first), None) => Some(first),
+        (None, _) => other,
     }
 }
 

@@ -16,3 +16,6 @@ pub mod PropagatorLemmas
 pub mod LatestLemmas
 pub mod MoveLemmas
 pub mod SearchLemmas
+pub mod ReclaimLemmas
+pub mod AlikeLemmas
+pub mod MovedLemmas

@@ -1,5 +1,5 @@
 -- The search along the list of a literal, for a clause that holds only negations of a set's literals.
-use Rattle.std.proofs.Common.{◌≡◌, ℕ, ◌<◌, ◌≤◌, ◌+◌, ◌-◌, ◌*◌, ◌/◌, ◌==◌, Bool, true, List, [], ◌∷◌, length, get_or, arith, inl, inr, sym, ◌∙◌, ap, subst, refl}
+use Rattle.std.proofs.Common.{◌≡◌, ℕ, ◌<◌, ◌≤◌, ◌+◌, ◌-◌, ◌*◌, ◌/◌, ◌==◌, Bool, true, List, [], ◌∷◌, length, get_or, arith, inl, inr, sym, ◌∙◌, ap, subst, refl, zero, suc}
 use Rattle.std.specs.Prelude.{All, Contains, Option, Some, None, IfNone}
 use Rattle.std.specs.List.{list_any, Any}
 use Rattle.std.proofs.lemmas.Bool.{cases_eq, cases_lt, eqb-true}
@@ -10,10 +10,10 @@ use Rattle.sat_lits.specs.Literals.{negation}
 use Rattle.sat_lits.specs.Steps.{IsFalsified}
 use Rattle.sat_arena.specs.declared.trail.Assigned.{Assigned}
 use Rattle.sat_arena.specs.Stored.{Stored}
-use Rattle.sat_arena.specs.ArenaState.{clauses_of, among}
+use Rattle.sat_arena.specs.ArenaState.{clauses_of, among, IsUnitOf}
 use Rattle.sat_arena.specs.PropagatorState.{AreShortTrue}
 use Rattle.sat_arena.specs.Links.{IsChain, AreListed, chain_length}
-use Rattle.sat_arena.specs.Watches.{clause_of, watch_of, KeepsWatches, IsSearching}
+use Rattle.sat_arena.specs.Watches.{clause_of, watch_of, AreWatches, KeepsWatches, IsSearching}
 use Rattle.sat_arena.proofs.DeducedLemmas.{clause_at}
 use Rattle.sat_arena.proofs.LinkLemmas.{contains_none, contains_cases}
 use Rattle.sat_arena.proofs.LengthLemmas.{chain_length-chain}
@@ -48,8 +48,8 @@ chain_first links watched literal start (n ∷ ns) chain some =
 
 -- ---- The search begins, goes on, and ends
 
-pub IsSearching-start : (clauses : List (List ℕ)) (links heads watched : List ℕ) (set : ℕ → Bool) (literal : ℕ) → AreListed links heads watched [] 0 0 → All (λ l. l < length heads) watched → IsSearching clauses links watched set literal (get_or heads literal 0)
-IsSearching-start clauses links heads watched set literal listed within = elim (cases_lt literal (length heads)) [
+pub IsSearching-start : (clauses : List (List ℕ)) (links heads watched : List ℕ) (wanted : List ℕ → Type 0) (literal : ℕ) → AreListed links heads watched [] 0 0 → All (λ l. l < length heads) watched → IsSearching clauses links watched wanted literal (get_or heads literal 0)
+IsSearching-start clauses links heads watched wanted literal listed within = elim (cases_lt literal (length heads)) [
   | inl inside ↦ record {
     pending = (listed.lists literal inside).watches;
     chain = (listed.lists literal inside).chain;
@@ -62,21 +62,21 @@ IsSearching-start clauses links heads watched set literal listed within = elim (
   }
 ]
 
-module _ (clauses : List (List ℕ)) (links watched : List ℕ) (set : ℕ → Bool) (literal start : ℕ) (searching : IsSearching clauses links watched set literal start) where
+module _ (clauses : List (List ℕ)) (links watched : List ℕ) (wanted : List ℕ → Type 0) (literal start : ℕ) (searching : IsSearching clauses links watched wanted literal start) where
   first : 0 < start → HasFirst links watched literal start searching.pending
   first some = chain_first links watched literal start searching.pending searching.chain some
 
   pub searching_linked : 0 < start → start - 1 < length links
   searching_linked some = (first some).linked
 
-  pub IsSearching-next : 0 < start → (IsFalsified set (clause_of clauses (start - 1)) → ⊥) → IsSearching clauses links watched set literal (get_or links (start - 1) 0)
+  pub IsSearching-next : 0 < start → (wanted (clause_of clauses (start - 1)) → ⊥) → IsSearching clauses links watched wanted literal (get_or links (start - 1) 0)
   IsSearching-next some not_false = record {
     pending = (first some).rest;
     chain = (first some).chain;
     passed = λ n h watches. elim (searching.passed n h watches) [
       | inr fine ↦ inr fine
       | inl holds ↦ elim (contains_cases (start - 1) (first some).rest n (subst (λ (xs : List ℕ). Contains xs n) (first some).same holds)) [
-        | inl same ↦ inr (subst (λ (k : ℕ). IsFalsified set (clause_of clauses k) → ⊥) same not_false)
+        | inl same ↦ inr (subst (λ (k : ℕ). wanted (clause_of clauses k) → ⊥) same not_false)
         | inr later ↦ inl later
       ]
     ];
@@ -89,7 +89,7 @@ module _ (clauses : List (List ℕ)) (links watched : List ℕ) (set : ℕ → B
       let after : chain_length links (length links) (get_or links (start - 1) 0) ≡ length (first some).rest = chain_length-chain links watched literal (get_or links (start - 1) 0) (first some).rest (first some).chain in
       omega arith
 
-  pub IsSearching-end : start ≡ 0 → (n : ℕ) → n < length watched → watch_of watched n ≡ literal → IsFalsified set (clause_of clauses n) → ⊥
+  pub IsSearching-end : start ≡ 0 → (n : ℕ) → n < length watched → watch_of watched n ≡ literal → wanted (clause_of clauses n) → ⊥
   IsSearching-end none n h watches = elim (searching.passed n h watches) [
     | inr fine ↦ fine
     | inl holds ↦ absurd (contains_none n (subst (λ (xs : List ℕ). Contains xs n) (chain_none links watched literal start searching.pending searching.chain none) holds))
@@ -117,6 +117,18 @@ none_falsified entries head clauses watched lits set keeps short same none = All
               let lit : get_or lits found.0 0 ≡ negation watch = get_or_default lits found.0 0 found.1 found.2 ∙ found.3 ∙ eqb-true found.1 (negation watch) found.4 in
               none found.0 found.2 (2 * i) inside (sym (other_twice watch) ∙ ap negation (sym lit)) (subst (IsFalsified set) (sym here) falsified)
         ]
+
+-- a unit clause is found in the list of its literal
+pub no_unit : (clauses : List (List ℕ)) (watched : List ℕ) (lit : ℕ) → AreWatches clauses watched → ((n : ℕ) → n < length watched → watch_of watched n ≡ lit → IsUnitOf lit (clause_of clauses n) → ⊥) → Contains clauses (lit ∷ []) → ⊥
+no_unit clauses watched lit watches none unit =
+    let here : clause_of clauses (2 * unit.0) ≡ lit ∷ [] = ap (λ k. get_or clauses k []) (let e : 2 * unit.0 / 2 ≡ unit.0 = omega arith in e) ∙ get_or_default clauses unit.0 [] (lit ∷ []) unit.1 ∙ unit.2 in
+    let inside : 2 * unit.0 < length watched = omega (arith, watches.two_each, unit.1) in
+    let holds : Contains (lit ∷ []) (watch_of watched (2 * unit.0)) = subst (λ (c : List ℕ). Contains c (watch_of watched (2 * unit.0))) here (watches.holds (2 * unit.0) inside (subst (λ (c : List ℕ). 0 < length c) (sym here) (omega arith))) in
+    none (2 * unit.0) inside (only_one lit (watch_of watched (2 * unit.0)) holds) here
+  where
+    only_one : (l m : ℕ) → Contains (l ∷ []) m → m ≡ l
+    only_one l m (zero, within, is) = sym is
+    only_one l m (suc k, within, is) = absurd (omega arith)
 
 -- ---- Answers
 

@@ -10,5 +10,7 @@ pub mod Newness
 pub mod Links
 pub mod Guarded
 pub mod Watches
+pub mod Reclaimed
 pub mod PropagatorState
+pub mod Moved
 pub mod Levels

@@ -1,7 +1,7 @@
 use Rattle.std.specs.Prelude.{◌≡◌, ℕ, Bool, true, false, List, Contains, ◌⊎◌}
 use Rattle.sat_lits.specs.Literals.{negation}
 
--- Which literals are true is true_in by a test. A literal is false where its negation is true.
+-- Which literals are true is given by a test. A literal is false where its negation is true.
 
 -- a literal of the clause is true
 pub record HasTrue (known : ℕ → Bool) (clause : List ℕ) : Type 0 where

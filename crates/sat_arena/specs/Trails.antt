@@ -1,4 +1,4 @@
-use Rattle.std.specs.Prelude.{◌≡◌, ◌≢◌, ℕ, ◌==◌, ◌≤◌, ◌<◌, ◌+◌, ◌*◌, Bool, false, List, length, All, filter, nat_le, slice_index, slice_index_or}
+use Rattle.std.specs.Prelude.{◌≡◌, ◌≢◌, ℕ, ◌==◌, ◌≤◌, ◌<◌, ◌+◌, ◌*◌, Bool, false, List, Some, length, All, filter, nat_le, slice_index, slice_index_or}
 use Rattle.std.specs.List.{list_any, AllPairs}
 use Rattle.sat_lits.specs.Literals.{variable_of}
 use Rattle.sat_arena.specs.declared.trail.Assigned.{Assigned}
@@ -10,6 +10,10 @@ true_in entries = λ l. list_any (λ e. e.lit == l) entries
 -- the entries of the levels up to this one
 abbrev pub up_to : ℕ → List Assigned → List Assigned
 up_to level entries = filter (λ e. nat_le e.level level) entries
+
+-- the entry with the clause at this position for its reason
+abbrev pub with_reason : Assigned → ℕ → Assigned
+with_reason entry position = record entry { reason = Some position }
 
 -- if an entry is of the literal's variable, it stands at this position
 abbrev pub IsPositionOf : List Assigned → ℕ → ℕ → Type 0

@@ -2,7 +2,6 @@
 use Rattle.std.specs.Prelude.{◌≡◌, ℕ, ◌+◌, ◌*◌, ◌/◌, ◌<◌, ◌≤◌, ◌^◌, ◌==◌, ◌&&◌, Bool, true, not, List, [], length, map, slice_index_or, slice_set, nat_lt, if◌then◌else◌, All, Contains, ◌⊎◌}
 use Rattle.std.specs.List.{list_any}
 use Rattle.sat_lits.specs.Literals.{negation, variable_of}
-use Rattle.sat_lits.specs.Steps.{IsFalsified}
 use Rattle.sat_arena.specs.declared.trail.Assigned.{Assigned}
 use Rattle.sat_arena.specs.Stored.{Stored}
 use Rattle.sat_arena.specs.Trails.{true_in}
@@ -98,12 +97,12 @@ pub record MayWatch (entries : List Assigned) (head : ℕ) (clause : List ℕ) (
   pub guards : IsGuarded entries head clause x
   pub further : x ≡ falsified → IsGuarded entries (head + 1) clause falsified
 
--- the watches that are linked from the start on are of the literal, and no clause but those of them holds only negations of
--- the set's literals and watches that one
-pub record IsSearching (clauses : List (List ℕ)) (links watched : List ℕ) (literal_set : ℕ → Bool) (literal start : ℕ) : Type 0 where
+-- the watches that are linked from the start on are of the literal, and no clause but those of them is wanted and watches
+-- that one
+pub record IsSearching (clauses : List (List ℕ)) (links watched : List ℕ) (wanted : List ℕ → Type 0) (literal start : ℕ) : Type 0 where
   pub pending : List ℕ
   pub chain : IsChain links watched literal start pending
-  pub passed : (n : ℕ) → n < length watched → watch_of watched n ≡ literal → Contains pending n ⊎ (IsFalsified literal_set (clause_of clauses n) → ⊥)
+  pub passed : (n : ℕ) → n < length watched → watch_of watched n ≡ literal → Contains pending n ⊎ (wanted (clause_of clauses n) → ⊥)
 
 -- some watches of the literal that became false are pending, linked from the start on
 pub record IsVisiting (entries : List Assigned) (head : ℕ) (clauses : List (List ℕ)) (links heads watched : List ℕ) (falsified start : ℕ) : Type 0 where

@@ -1,18 +1,21 @@
 //! The clauses among which propagation goes on, and which of their literals they watch.
-ghost use Rattle.std.specs.Prelude.{◌≡◌, ℕ, ◌+◌, ◌*◌, ◌<◌, ◌≤◌, ◌^◌, ◌++◌, ◌∷◌, ◌⊎◌, [], not, All, Contains, filter, length, max, map, slice_index_or, slice_set, replicate, take, false, vec_len, vec_capacity, IfOk, IfNone, IfSome, OnOk, OnErr};
+ghost use Rattle.std.specs.Prelude.{◌≡◌, ℕ, ◌+◌, ◌*◌, ◌<◌, ◌≤◌, ◌^◌, ◌++◌, ◌∷◌, ◌⊎◌, List, [], not, All, Contains, filter, length, max, map, slice_index_or, slice_set, replicate, take, false, vec_len, vec_capacity, IfOk, IfNone, IfSome, OnOk, OnErr};
 ghost use Rattle.sat_lits.specs.Steps.{IsFalsified};
 ghost use Rattle.sat_arena.specs.Trails.{true_in, marked, IsGrown};
-ghost use Rattle.sat_arena.specs.ArenaState.{clauses_of, among, is_satisfied, AreGrown};
+ghost use Rattle.sat_arena.specs.ArenaState.{clauses_of, among, is_satisfied, AreGrown, IsUnitOf};
 ghost use Rattle.sat_arena.specs.Deduced.{Deduces, IsConflict};
 ghost use Rattle.sat_arena.specs.Guarded.{level_at, IsLast};
 ghost use Rattle.sat_arena.specs.Links.{IsLengthened};
 ghost use Rattle.sat_arena.specs.Stored.{Stored};
-ghost use Rattle.sat_arena.specs.Watches.{clause_of, watch_of, may_watch, watches_after, KeepsWatches, AreTwoOf, IsAnyOf, MovesWatch};
+ghost use Rattle.sat_arena.specs.Reclaimed.{moves, HasCopied, IsCopied, AreCopied};
+ghost use Rattle.sat_arena.specs.declared.trail.Assigned.{Assigned};
+ghost use Rattle.sat_arena.specs.Watches.{clause_of, watch_of, may_watch, watches_after, KeepsWatches, AreWatches, AreTwoOf, IsAnyOf, MovesWatch};
 
 use crate::falsified::find_in_list;
 use crate::status::{WatchPair, only_or_any};
 use crate::stored::StoredClause;
 use crate::trail::Trail;
+use crate::units::find_unit_in_list;
 use crate::visit::{move_to_list, visit_list};
 use fsmv_base::{Id, NoMemory};
 use sat_lits::{Clause, Lit};
@@ -23,7 +26,8 @@ use std::marker::Model;
 /// not there. A clause of two or more literals watches two of them.
 ///
 /// Contracts see the list of the clauses with their ids, the greatest variable that may stand in one,
-/// and the watched literals, the two of each clause one after the other.
+/// the watched literals, the two of each clause one after the other, and where the last `reclaim` has put
+/// each clause.
 #[derive(Drop)]
 pub struct Arena {
     alloc: Global,
@@ -32,6 +36,7 @@ pub struct Arena {
     links: Vec<u32>,
     heads: Vec<u32>,
     vars: u32,
+    moved: Vec<Option<u32>>,
 }
 
 impl Model for Arena {
@@ -44,6 +49,7 @@ impl Model for Arena {
       stored = a.clauses.items;
       vars = a.vars;
       watched = a.watched.items;
+      moved = a.moved.items;
     } };
 
     ghost invariant = { λ a. IsArena a.clauses.items a.watched.items a.links.items a.heads.items
@@ -53,7 +59,7 @@ impl Model for Arena {
 impl Arena {
     /// The arena without clauses, over no variables.
     pub fn new(alloc: Global) -> Arena
-        ensures { result ≡ record { stored = []; vars = 0; watched = [] } }
+        ensures { result ≡ record { stored = []; vars = 0; watched = []; moved = [] } }
     {
         Arena {
             alloc,
@@ -62,6 +68,7 @@ impl Arena {
             links: Vec::new(alloc),
             heads: Vec::new(alloc),
             vars: 0,
+            moved: Vec::new(alloc),
         }
     }
 
@@ -111,9 +118,8 @@ impl Arena {
         requires second { IsAnyOf clause.now second }
         requires two { 1 < length clause.now → AreTwoOf clause.now first second }
         ensures position { IfOk result (λ position. position ≡ length self.old.stored) }
-        ensures ok { OnOk result (self.new ≡ record {
+        ensures ok { OnOk result (self.new ≡ record self.old {
           stored = self.old.stored ++ record { clause = clause.now; id = id } ∷ [];
-          vars = self.old.vars;
           watched = (self.old.watched ++ first ∷ []) ++ second ∷ [];
         }) }
         ensures err { OnErr result (self.new ≡ self.old) }
@@ -179,12 +185,20 @@ impl Arena {
     }
 
     /// Takes out the clauses of two or more literals of which one is among the root literals, and
-    /// answers how many. The others keep their order. It takes the time of going once over the clauses
-    /// and the root literals. After `NoMemory` the arena is unchanged.
+    /// answers how many. The others keep their order, and `moved` tells where each stands then. It takes
+    /// the time of going once over the clauses and the root literals. After `NoMemory` the arena is
+    /// unchanged.
     pub fn reclaim(&mut self, root: &[Lit]) -> Result<u32, NoMemory>
         ensures ok { OnOk result (self.new.stored
             ≡ filter (λ s. not (is_satisfied (among root.now) s)) self.old.stored) }
         ensures vars { OnOk result (self.new.vars ≡ self.old.vars) }
+        ensures moved { OnOk result (self.new.moved
+            ≡ moves (is_satisfied (among root.now)) 0 self.old.stored) }
+
+        // Watches are kept with their clauses.
+        ensures watches { OnOk result ((entries : List Assigned) (head : ℕ)
+            → KeepsWatches entries head (clauses_of self.old.stored) self.old.watched
+            → KeepsWatches entries head (clauses_of self.new.stored) self.new.watched) }
         ensures count { IfOk result (λ count. count + length self.new.stored
             ≡ length self.old.stored) }
         ensures err { OnErr result (self.new ≡ self.old) }
@@ -199,9 +213,19 @@ impl Arena {
         Ok(before - after)
     }
 
+    /// Where the clause stands now that stood at this position before the last `reclaim`; `None` where it
+    /// was taken out. It takes no memory.
+    pub fn moved(&self, at: u32) -> Option<u32>
+        requires { at < length self.now.moved }
+        ensures { result ≡ slice_index_or self.now.moved at result }
+    {
+        self.moved[at as usize]
+    }
+
     /// How many clauses there are.
     pub fn len(&self) -> u32
         ensures len { result ≡ length self.now.stored }
+        ensures watches { AreWatches (clauses_of self.now.stored) self.now.watched }
         ensures grown { AreGrown self.now.vars (clauses_of self.now.stored) }
     {
         self.clauses.len() as u32
@@ -247,6 +271,9 @@ impl Arena {
         ensures two { 1 < length (slice_index_or (clauses_of self.now.stored) at [])
             → AreTwoOf (slice_index_or (clauses_of self.now.stored) at [])
             result.first result.second }
+        ensures same { 1 < length (slice_index_or (clauses_of self.now.stored) at [])
+            → (result.first ≡ watch_of self.now.watched (2 * at))
+            × (result.second ≡ watch_of self.now.watched (2 * at + 1)) }
     {
         let _ = &self.alloc;
         let lits = self.lits(at);
@@ -269,17 +296,47 @@ impl Arena {
         self.clauses[at as usize].is_satisfied(literal_set)
     }
 
-    /// Adds the clause at the position to another arena.
+    /// Adds the clause at the position to another arena, with what it watches, and notes where it stands
+    /// there; one of two or more literals of which one is in the set is not added, and this is noted.
+    fn copy_unless_satisfied(
+        &self,
+        at: u32,
+        literal_set: &[bool],
+        kept: &mut Arena,
+    ) -> Result<(), NoMemory>
+        requires at { at < length self.now.stored }
+        requires vars { kept.old.vars ≡ self.now.vars }
+        ensures vars { kept.new.vars ≡ kept.old.vars }
+        ensures ok { OnOk result ((d : Stored) → HasCopied self.now at
+            (is_satisfied (marked literal_set.now) (slice_index_or self.now.stored at d))
+            kept.old kept.new) }
+    {
+        if self.is_satisfied(at, literal_set) {
+            return kept.note_move(None);
+        }
+        self.copy_to(at, kept)
+    }
+
+    /// Adds the clause at the position to another arena, with what it watches, and notes where it stands
+    /// there.
     fn copy_to(&self, at: u32, kept: &mut Arena) -> Result<(), NoMemory>
         requires at { at < length self.now.stored }
         requires vars { kept.old.vars ≡ self.now.vars }
         ensures vars { kept.new.vars ≡ kept.old.vars }
-        ensures ok { OnOk result ((d : Stored) → kept.new.stored
-            ≡ kept.old.stored ++ slice_index_or self.now.stored at d ∷ []) }
+        ensures ok { OnOk result (IsCopied self.now at kept.old kept.new) }
     {
         let _count = self.len();
         let pair = self.watches_or_any(at);
-        kept.add_watching(self.clause(at), self.id(at), pair.first, pair.second)?;
+        let position = kept.add_watching(self.clause(at), self.id(at), pair.first, pair.second)?;
+        kept.note_move(Some(position))
+    }
+
+    /// Notes where the next clause of the arena that this one takes the place of stands here.
+    fn note_move(&mut self, position: Option<u32>) -> Result<(), NoMemory>
+        ensures ok { OnOk result (self.new ≡ record self.old { moved = self.old.moved ++ position ∷ [] }) }
+        ensures vars { self.new.vars ≡ self.old.vars }
+    {
+        self.moved.push(position)?;
         Ok(())
     }
 
@@ -310,6 +367,17 @@ impl Arena {
             lit,
             literal_set,
         )
+    }
+
+    /// The position of the clause of the literal alone. It goes through the list of the literal.
+    pub(crate) fn find_unit(&self, lit: Lit) -> Option<u32>
+        ensures some { IfSome result (λ position. (position < length self.now.stored)
+            × IsUnitOf lit (slice_index_or (clauses_of self.now.stored) position [])) }
+        ensures none { IfNone result
+            (Contains (clauses_of self.now.stored) (lit ∷ []) → ⊥) }
+    {
+        let _ = &self.alloc;
+        find_unit_in_list(&self.clauses, &self.watched, &self.links, &self.heads, lit)
     }
 
     /// Goes through the clauses that watch the literal that the entry at the head of the queue made
@@ -404,15 +472,15 @@ fn is_watchable(lits: &[Lit], first: Lit, second: Lit, to: Lit) -> bool
 /// Copies the clauses that are not satisfied by a literal of the set, with what they watch.
 fn copy_kept(arena: &Arena, literal_set: &[bool], kept: &mut Arena) -> Result<(), NoMemory>
     requires none { kept.old.stored ≡ [] }
+    requires no_watches { kept.old.watched ≡ [] }
+    requires no_moves { kept.old.moved ≡ [] }
     requires vars { kept.old.vars ≡ arena.now.vars }
     ensures vars { kept.new.vars ≡ kept.old.vars }
-    ensures ok { OnOk result (kept.new.stored
-        ≡ filter (λ s. not (is_satisfied (marked literal_set.now) s)) arena.now.stored) }
+    ensures ok { OnOk result (AreCopied (is_satisfied (marked literal_set.now)) arena.now.stored
+        arena.now kept.new) }
 {
     for at in 0..arena.len() {
-        if !arena.is_satisfied(at, literal_set) {
-            arena.copy_to(at, kept)?;
-        }
+        arena.copy_unless_satisfied(at, literal_set, kept)?;
     }
     Ok(())
 }

@@ -60,7 +60,7 @@ pub fn find_in_list(
 }
 
 /// Where the literal's list begins, and 0 where it has none.
-fn first_of(heads: &[u32], lit: Lit) -> u32
+pub fn first_of(heads: &[u32], lit: Lit) -> u32
     ensures { result ≡ slice_index_or heads.now lit 0 }
 {
     heads.get(lit.code() as usize).copied().unwrap_or(0)

@@ -3,13 +3,16 @@
 
 mod arena;
 mod falsified;
+mod moved;
 mod propagator;
 mod status;
 mod stored;
 mod trail;
+mod units;
 mod visit;
 
 pub use arena::Arena;
 pub use propagator::Propagator;
 pub use status::WatchPair;
+pub use stored::clause_satisfied;
 pub use trail::{Assigned, Trail};

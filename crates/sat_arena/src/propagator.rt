@@ -1,18 +1,20 @@
 //! Unit propagation: the clauses, the literals that are true, and the queue of those whose effect is still
 //! to be looked at.
-ghost use Rattle.std.specs.Prelude.{◌≡◌, ℕ, ◌+◌, ◌<◌, ◌≤◌, ◌^◌, ◌++◌, ◌∷◌, [], None, false, All, length, max, min, map, slice_index, slice_index_or, IfOk, IfNone, IfSome, OnOk, OnErr};
+ghost use Rattle.std.specs.Prelude.{◌≡◌, ℕ, ◌+◌, ◌<◌, ◌≤◌, ◌^◌, ◌++◌, ◌∷◌, [], None, false, All, Contains, length, max, min, map, slice_index, slice_index_or, IfOk, IfNone, IfSome, OnOk, OnErr};
 ghost use Rattle.sat_lits.specs.Literals.{negation};
 ghost use Rattle.sat_lits.specs.Steps.{IsFalsified};
 ghost use Rattle.sat_arena.specs.Trails.{true_in, up_to, marked, IsGrown, IsOrderly};
 ghost use Rattle.sat_arena.specs.Settled.{IsSettled};
-ghost use Rattle.sat_arena.specs.Justified.{current_level};
+ghost use Rattle.sat_arena.specs.Justified.{current_level, IsJustified};
 ghost use Rattle.sat_arena.specs.ArenaState.{clauses_of, among, AreGrown};
 ghost use Rattle.sat_arena.specs.Deduced.{Deduces, IsConflict};
 ghost use Rattle.sat_arena.specs.Watches.{clause_of, watch_of, KeepsWatches};
 ghost use Rattle.sat_arena.specs.PropagatorState.{AreCurrentFrom};
+ghost use Rattle.sat_arena.specs.Moved.{Reclaims};
 
 use crate::arena::Arena;
 use crate::falsified::{find_falsified, is_falsified};
+use crate::moved::move_reasons;
 use crate::status::{Status, status_of, watches_for};
 use crate::trail::{Assigned, Trail};
 use fsmv_base::{Id, NoMemory};
@@ -173,6 +175,29 @@ impl Propagator {
                 let end = empty_queue(&mut self.arena, &mut self.trail, self.head);
                 self.head = end.head;
                 end.conflict
+            }
+        }
+    }
+
+    /// Takes out the clauses of two or more literals of which one is among the root literals, each of which
+    /// is a unit clause, and answers how many. An entry whose reason is taken out gets the unit clause of its
+    /// literal. Once a clause was refuted, nothing changes, and it answers `None`. After `NoMemory` nothing has
+    /// changed.
+    pub fn reclaim(&mut self, root: &[Lit]) -> Result<Option<u32>, NoMemory>
+        requires level { current_level self.old.entries ≡ 0 }
+        requires justified { IsJustified (clauses_of self.old.stored) self.old.entries }
+        requires units { All (λ l. Contains (clauses_of self.old.stored) (l ∷ [])) root.now }
+        ensures some { IfOk result (λ count. IfSome count (Reclaims root.now self.old self.new)) }
+        ensures none { IfOk result (λ count. IfNone count (self.new ≡ self.old)) }
+        ensures err { OnErr result (self.new ≡ self.old) }
+    {
+        match self.refuted {
+            Some(_) => Ok(None),
+            None => {
+                let _entries = self.trail.entries();
+                let count = self.arena.reclaim(root)?;
+                move_reasons(&self.arena, &mut self.trail);
+                Ok(Some(count))
             }
         }
     }

@@ -3,7 +3,7 @@ ghost use Rattle.std.specs.Prelude.{◌≡◌, All};
 ghost use Rattle.std.specs.List.{list_any};
 ghost use Rattle.sat_lits.specs.Clauses.{HasRisingVariables};
 ghost use Rattle.sat_arena.specs.Trails.{marked};
-ghost use Rattle.sat_arena.specs.ArenaState.{is_satisfied};
+ghost use Rattle.sat_arena.specs.ArenaState.{clause_satisfied, is_satisfied};
 
 use fsmv_base::Id;
 use sat_lits::{Clause, Lit};
@@ -54,9 +54,15 @@ impl StoredClause {
     pub fn is_satisfied(&self, literal_set: &[bool]) -> bool
         ensures { result ≡ is_satisfied (marked literal_set.now) self.now }
     {
-        let lits = self.clause.lits();
-        lits.len() > 1 && has_member(literal_set, lits)
+        clause_satisfied(self.clause.lits(), literal_set)
     }
+}
+
+/// Whether these are two or more literals of which one is in the set.
+pub fn clause_satisfied(lits: &[Lit], literal_set: &[bool]) -> bool
+    ensures { result ≡ clause_satisfied (marked literal_set.now) lits.now }
+{
+    lits.len() > 1 && has_member(literal_set, lits)
 }
 
 /// Whether one of the literals is in the set.

@@ -1,7 +1,7 @@
 //! The literals that are true, in the order in which they became so.
-ghost use Rattle.std.specs.Prelude.{◌≡◌, ℕ, ◌+◌, ◌≤◌, ◌<◌, ◌^◌, ◌&&◌, true, false, not, [], ◌∷◌, ◌++◌, All, AllPairs, length, max, take, drop, OnOk, OnErr};
+ghost use Rattle.std.specs.Prelude.{◌≡◌, ℕ, ◌+◌, ◌≤◌, ◌<◌, ◌^◌, ◌&&◌, true, false, not, [], ◌∷◌, ◌++◌, All, AllPairs, length, max, slice_index_or, slice_set, take, drop, OnOk, OnErr};
 ghost use Rattle.sat_lits.specs.Literals.{negation, variable_of};
-ghost use Rattle.sat_arena.specs.Trails.{true_in, up_to, marked, IsOrderly, IsPositionOf};
+ghost use Rattle.sat_arena.specs.Trails.{true_in, up_to, with_reason, marked, IsOrderly, IsPositionOf};
 ghost use Rattle.sat_arena.specs.Justified.{current_level, HasPositions};
 ghost use Rattle.sat_arena.specs.Settled.{IsConsistent};
 
@@ -101,6 +101,18 @@ impl Trail {
         let kept = count_up_to(&self.entries, level);
         clear(self.truth.as_mut_slice(), &self.entries, kept);
         self.entries.truncate(kept);
+    }
+
+    /// Gives the entry at the position this reason. It takes no memory.
+    pub fn set_reason(&mut self, entry: u32, reason: u32)
+        requires { entry < length self.old.entries }
+        ensures { (d : Assigned) → self.new ≡ record self.old {
+          entries = slice_set self.old.entries entry
+              (with_reason (slice_index_or self.old.entries entry d) reason);
+        } }
+    {
+        let changed = &mut self.entries[entry as usize];
+        changed.reason = Some(reason);
     }
 
     /// The literals that are true, in their order.

@@ -26,9 +26,9 @@ use Rattle.sat_search.specs.Endings.{Records, Refutes, EndsBy, AddsNewLine}
 use Rattle.sat_search.specs.declared.solver.Solver.{Solver}
 use Rattle.sat_search.specs.declared.answer.Answer.TheVariants.{Core}
 use Rattle.sat_search.proofs.ReadyLemmas.{IsReady-deduced}
-use Rattle.sat_search.proofs.KeepsLemmas.{with_line, derived_named, listed_has_name, listed_is_stored, KeepsLog-record, HasVariables-record}
+use Rattle.sat_search.proofs.KeepsLemmas.{with_line, derived_named, covered_unit, listed_has_name, listed_is_covered, KeepsLog-record, HasVariables-record}
 use Rattle.sat_arena.proofs.LevelLaws.{current_level-up_to, up_to-up_to}
-use Rattle.sat_search.proofs.LearntLemmas.{IsReady-add, not_yet, grown_if_false, learnt_is_new, learnt_is_not_stored, learnt_has_no_unit, learnt_has_two}
+use Rattle.sat_search.proofs.LearntLemmas.{IsReady-add, not_yet, grown_if_false, learnt_is_new, learnt_is_not_covered, learnt_has_no_unit, learnt_has_two}
 
 -- ---- A clause of negated assumptions, where none was known
 
@@ -127,11 +127,11 @@ module _ (old : Solver) (learnt : Learnt) (solver : IsSolver old) (above : 0 < c
   pub learnt_plain : HoldsUnit (live_lines old.log.lines) learnt.clause → ⊥
   learnt_plain unit =
       learnt_has_no_unit (clauses_of old.propagator.stored) old.propagator.entries old.propagator.vars solver.ready above learnt.clause learnt.level is.falsified (is.asserts above) unit.literal
-      (solver.keeps.listed (Derived unit.stands.0) (unit.literal ∷ []) (derived_named old.log.axioms (live_lines old.log.lines) unit.stands.0 (unit.literal ∷ []) unit.stands.1)) unit.holds
+      (covered_unit (clauses_of old.propagator.stored) unit.literal (solver.keeps.listed (Derived unit.stands.0) (unit.literal ∷ []) (derived_named old.log.axioms (live_lines old.log.lines) unit.stands.0 (unit.literal ∷ []) unit.stands.1))) unit.holds
 
   pub learnt_fresh : IsLive (live_lines old.log.lines) learnt.clause → ⊥
   learnt_fresh stands =
-      learnt_is_not_stored (clauses_of old.propagator.stored) old.propagator.entries old.propagator.vars solver.ready above learnt.clause learnt.level is.falsified (is.asserts above)
+      learnt_is_not_covered (clauses_of old.propagator.stored) old.propagator.entries old.propagator.vars solver.ready above learnt.clause learnt.level is.falsified (is.asserts above)
       (solver.keeps.listed (Derived stands.0) learnt.clause (derived_named old.log.axioms (live_lines old.log.lines) stands.0 learnt.clause stands.1))
 
   pub learnt_two : (level k : ℕ) → level ≤ learnt.level → k < current_level (up_to level old.propagator.entries) → HasTwo (true_in (up_to k (up_to level old.propagator.entries))) learnt.clause
@@ -154,7 +154,7 @@ module _ (old : Solver) (learnt : Learnt) (solver : IsSolver old) (above : 0 < c
     hints = hints;
     is = new_is;
     is_new = learnt_is_new (clauses_of old.propagator.stored) old.propagator.entries old.propagator.vars solver.ready above learnt.clause learnt.level is.falsified (is.asserts above) (listed_at (length old.log.lines) old.log)
-        (listed_is_stored old.log old.propagator.stored solver.keeps (λ i count line at retired. (sound.retired i count line at retired).1));
+        (listed_is_covered old.log old.propagator.stored solver.keeps (λ i count line at retired. (sound.retired i count line at retired).1));
     room = room;
     variables = λ before. subst HasVariables (sym new_is) (HasVariables-record old.log old.propagator.stored learnt.clause hints solver.keeps is.variables before);
   }

@@ -1,11 +1,13 @@
 -- What a whole search finds, and what it adds to the log.
-use Rattle.std.proofs.Common.{◌≡◌, ◌<◌, ◌≤◌, ◌+◌, ℕ, List, Option, Some, None, Bool, true, arith, subst, sym, ap, ◌∙◌, inl, inr, get_or, length}
+use Rattle.std.proofs.Common.{◌≡◌, ◌<◌, ◌≤◌, ◌+◌, ℕ, List, [], ◌∷◌, Option, Some, None, Bool, true, arith, subst, sym, ap, ◌∙◌, inl, inr, get_or, length}
 use Rattle.std.specs.Prelude.{All, Contains}
+use Rattle.std.specs.List.{Any}
 use Rattle.std.proofs.lemmas.List.{length_push}
+use Rattle.std.proofs.lemmas.List.Folds.{Any-from_list_any, list_any_at}
 use Rattle.std.proofs.lemmas.List.Elements.{All-contains, All-weaker, Contains-get_or}
 use Rattle.fsmv_base.specs.declared.citation.Id.{Id}
 use Rattle.fsmv_base.specs.declared.citation.Id.TheVariants.{Derived}
-use Rattle.sat_lits.specs.Literals.{negation, literal}
+use Rattle.sat_lits.specs.Literals.{negation, literal, literal_true}
 use Rattle.sat_lits.specs.Clauses.{clause_true}
 use Rattle.sat_lits.specs.Steps.{IsFalsified}
 use Rattle.sat_lits.proofs.Numbered.{slice_get-push}
@@ -19,7 +21,7 @@ use Rattle.sat_arena.proofs.TrailLemmas.{consistent}
 use Rattle.sat_search.specs.Orders.{AllAssigned}
 use Rattle.sat_search.specs.Assumed.{AreNotFalsifiedUnder, assumed, AllTrue}
 use Rattle.sat_search.specs.Additions.{present, listed_at, NoneSubsumes, HasVariables}
-use Rattle.sat_search.specs.Solvers.{IsSolver}
+use Rattle.sat_search.specs.Solvers.{IsCovered, IsSolver}
 use Rattle.sat_search.specs.LoopEnds.{AreSettled}
 use Rattle.sat_search.specs.Endings.{ContinuesTo, EndsBy, AddsOwnLine, RunsTo}
 use Rattle.sat_search.specs.Sessions.{IsModel, Answers, AddsLines}
@@ -27,7 +29,8 @@ use Rattle.sat_search.specs.Founds.{HasValues, named_by}
 use Rattle.sat_search.specs.declared.solver.Solver.{Solver}
 use Rattle.sat_search.specs.declared.answer.Answer.{Answer}
 use Rattle.sat_search.specs.declared.answer.Answer.TheVariants.{Model, Core, Spent}
-use Rattle.sat_search.proofs.KeepsLemmas.{with_line, line_of, slice_get_within, present_named, axiom_named, derived_named, listed_at-record, Extends-record}
+use Rattle.sat_search.proofs.KeepsLemmas.{only, with_line, line_of, slice_get_within, present_named, axiom_named, derived_named, listed_at-record, Appends-record}
+use Rattle.sat_search.proofs.RetireLemmas.{Extends-appends}
 use Rattle.sat_search.proofs.ModelLemmas.{literal_true-known, clause_true-settled}
 use Rattle.sat_search.proofs.LearntLemmas.{grown_if_true}
 
@@ -35,7 +38,7 @@ use Rattle.sat_search.proofs.LearntLemmas.{grown_if_true}
 
 pub AddsLines-continues : (assumptions : List ℕ) (old new : Logged) (most : ℕ) (core : Option Id) → ContinuesTo old new most → AddsLines assumptions old new most core
 AddsLines-continues assumptions old new most core continues = record {
-  extends = continues.extends;
+  extends = Extends-appends old new continues.appends;
   within = continues.within;
   news = λ i line from is. inl (continues.news i line from is);
 }
@@ -46,7 +49,7 @@ AddsLines-own negated assumptions search_round old mid new most id before own =
     let room : length mid.lines < most = own.room in
     let name : Core id ≡ Core (Derived (length mid.lines + 1)) = own.named in
     subst (λ (log : Logged). AddsLines assumptions old log most (Some id)) (sym own.is) (record {
-      extends = Extends-record old mid own.clause own.hints before.extends;
+      extends = Extends-appends old (with_line mid own.clause own.hints) (Appends-record old mid own.clause own.hints before.appends);
       within = λ _. omega arith;
       news = λ i line from is. elim (slice_get-push mid.lines (line_of own.clause own.hints) line i is) [
         | inl earlier ↦ inl (subst (λ (listed : List (List ℕ)). IsNew listed line.clause)
@@ -89,6 +92,16 @@ HasVariables-run negated assumptions old new most Spent runs first = variables_a
 
 -- ---- The answers
 
+-- where the clauses are true, so is each that they cover
+covered_is_true : (values : ℕ → Bool) (clauses : List (List ℕ)) (clause : List ℕ) → ((c : List ℕ) → Contains clauses c → clause_true values c ≡ true) → IsCovered clauses clause → clause_true values clause ≡ true
+covered_is_true values clauses clause all covered = elim covered [
+  | inl listed ↦ all clause listed
+  | inr unit ↦
+      let some : Any (λ l. literal_true values l ≡ true) (unit.0 ∷ []) = Any-from_list_any (literal_true values) (unit.0 ∷ []) (all (unit.0 ∷ []) unit.2) in
+      let same : some.1 ≡ unit.0 = only unit.0 some.1 (some.0, some.2, some.3) in
+      list_any_at (literal_true values) clause unit.1.0 unit.0 unit.1.1 (subst (λ (l : ℕ). literal_true values l ≡ true) (sym unit.1.2) (subst (λ (l : ℕ). literal_true values l ≡ true) same some.4))
+]
+
 IsModel-found : (solver : Solver) (assumptions : List ℕ) (values : List Bool) → IsSolver solver → AreSettled solver → AllTrue assumptions solver.propagator.entries → AllAssigned solver.propagator.vars (true_in solver.propagator.entries) → ((var : ℕ) → 1 ≤ var → var ≤ solver.propagator.vars → marked values var ≡ true_in solver.propagator.entries (literal var true)) → IsModel solver.log assumptions values
 IsModel-found solver assumptions values keeps settled all_true assigned read =
     let known = true_in solver.propagator.entries in
@@ -98,15 +111,17 @@ IsModel-found solver assumptions values keeps settled all_true assigned read =
     = λ clause holds. clause_true-settled known (marked values) vars agree assigned read clause
     (All-contains (λ (c : List ℕ). All (IsGrown vars) c) (clauses_of solver.propagator.stored) clause keeps.grown holds)
     (All-contains (IsSettled known) (clauses_of solver.propagator.stored) clause settled.settled holds) in
+    let covered_true : (clause : List ℕ) → IsCovered (clauses_of solver.propagator.stored) clause → clause_true (marked values) clause ≡ true
+    = λ clause covered. covered_is_true (marked values) (clauses_of solver.propagator.stored) clause stored_true covered in
     record {
       axioms = λ k d within.
           let clause = get_or solver.log.axioms k d in
           let at = axiom_named solver.log.axioms (live_lines solver.log.lines) clause (Contains-get_or solver.log.axioms k d within) in
-          stored_true clause (keeps.keeps.listed at.0 clause at.1);
+          covered_true clause (keeps.keeps.listed at.0 clause at.1);
       lines = λ k d within.
           let clause = get_or (present (live_lines solver.log.lines)) k d in
           let at = present_named (live_lines solver.log.lines) clause (Contains-get_or (present (live_lines solver.log.lines)) k d within) in
-          stored_true clause (keeps.keeps.listed (Derived at.0) clause (derived_named solver.log.axioms (live_lines solver.log.lines) at.0 clause at.1));
+          covered_true clause (keeps.keeps.listed (Derived at.0) clause (derived_named solver.log.axioms (live_lines solver.log.lines) at.0 clause at.1));
       assumed_true = λ k d within.
           let a = get_or assumptions k d in
           literal_true-known known (marked values) vars agree assigned read a (grown_if_true solver.propagator.entries vars a keeps.ready.orderly (all_true k d within)) (all_true k d within);

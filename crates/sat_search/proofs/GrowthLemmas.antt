@@ -19,15 +19,15 @@ use Rattle.sat_arena.specs.Justified.{current_level}
 use Rattle.sat_arena.proofs.JustifiedLemmas.{IsJustified-add}
 use Rattle.sat_analyze.specs.Derived.{HasVariable}
 use Rattle.sat_search.specs.Axioms.{axioms_from}
-use Rattle.sat_search.specs.Solvers.{IsReady, IsSolver, KeepsLog}
+use Rattle.sat_search.specs.Solvers.{IsCovered, IsReady, IsSolver, KeepsLog}
 use Rattle.sat_search.proofs.ReadyLemmas.{IsReady-deduced}
 use Rattle.sat_search.specs.Additions.{HasVariables}
 use Rattle.sat_search.specs.declared.solver.Solver.{Solver}
-use Rattle.sat_search.proofs.KeepsLemmas.{named_derived, axiom_named}
+use Rattle.sat_search.proofs.KeepsLemmas.{named_derived, axiom_named, IsCovered-append}
 
 -- ---- Nothing yet
 
-nothing_named : (id : Id) (clause : List ℕ) → named [] [] id ≡ Some clause → Contains (clauses_of []) clause
+nothing_named : (id : Id) (clause : List ℕ) → named [] [] id ≡ Some clause → IsCovered (clauses_of []) clause
 nothing_named (Axiom n) clause is = absurd (let e : None ≡ Some clause = sym (numbered-nil n) ∙ is in cc)
 nothing_named (Derived n) clause is = absurd (let e : None ≡ Some (Some clause) = sym (numbered-nil n) ∙ named_derived [] [] n clause is in cc)
 
@@ -100,12 +100,12 @@ contains_from_number xs zero x is = absurd (let e : None ≡ Some x = is in cc)
 contains_from_number xs (suc i) x is = contains_from_get xs i x is
 
 -- where an axiom was there or is new, and where a line is named, the clause is stored
-listed_more : (axioms more : List (List ℕ)) (lines : List (Option (List ℕ))) (kept : List (List ℕ)) → ((id : Id) (clause : List ℕ) → named axioms lines id ≡ Some clause → Contains kept clause) → (id : Id) (clause : List ℕ) → named (axioms ++ more) lines id ≡ Some clause → Contains (kept ++ more) clause
+listed_more : (axioms more : List (List ℕ)) (lines : List (Option (List ℕ))) (kept : List (List ℕ)) → ((id : Id) (clause : List ℕ) → named axioms lines id ≡ Some clause → IsCovered kept clause) → (id : Id) (clause : List ℕ) → named (axioms ++ more) lines id ≡ Some clause → IsCovered (kept ++ more) clause
 listed_more axioms more lines kept listed (Axiom n) clause is = elim (Contains-append_cases axioms more clause (contains_from_number (axioms ++ more) n clause is)) [
-  | inl old ↦ (let at = axiom_named axioms lines clause old in Contains-append_left kept more clause (listed at.0 clause at.1))
-  | inr new ↦ Contains-append_right kept more clause new
+  | inl old ↦ (let at = axiom_named axioms lines clause old in IsCovered-append kept more clause (listed at.0 clause at.1))
+  | inr new ↦ inl (Contains-append_right kept more clause new)
 ]
-listed_more axioms more lines kept listed (Derived n) clause is = Contains-append_left kept more clause (listed (Derived n) clause is)
+listed_more axioms more lines kept listed (Derived n) clause is = IsCovered-append kept more clause (listed (Derived n) clause is)
 
 variable_more : (axioms more : List (List ℕ)) (v : ℕ) → HasVariable axioms v → HasVariable (axioms ++ more) v
 variable_more axioms more v has = record {
@@ -132,7 +132,7 @@ KeepsLog-axioms log stored more keeps =
       names = All-append (λ (s : Stored). named (log.axioms ++ more) (live_lines log.lines) s.id ≡ Some s.clause) stored added
           (All-weaker (λ (s : Stored). named log.axioms (live_lines log.lines) s.id ≡ Some s.clause) (λ (s : Stored). named (log.axioms ++ more) (live_lines log.lines) s.id ≡ Some s.clause) (λ s is. named_more log.axioms more (live_lines log.lines) s.id s.clause is) stored keeps.names)
           (added_names (live_lines log.lines) log.axioms more);
-      listed = λ id clause is. subst (λ (cs : List (List ℕ)). Contains cs clause) (sym all) (listed_more log.axioms more (live_lines log.lines) (clauses_of stored) keeps.listed id clause is);
+      listed = λ id clause is. subst (λ (cs : List (List ℕ)). IsCovered cs clause) (sym all) (listed_more log.axioms more (live_lines log.lines) (clauses_of stored) keeps.listed id clause is);
       variables = subst (λ (cs : List (List ℕ)). All (λ clause. All (λ l. HasVariable (log.axioms ++ more) (variable_of l)) clause) cs) (sym all)
           (All-append (λ (clause : List ℕ). All (λ l. HasVariable (log.axioms ++ more) (variable_of l)) clause) (clauses_of stored) more
           (All-weaker (λ (clause : List ℕ). All (λ l. HasVariable log.axioms (variable_of l)) clause) (λ (clause : List ℕ). All (λ l. HasVariable (log.axioms ++ more) (variable_of l)) clause)

@@ -1,12 +1,12 @@
 -- A log and the clauses that are stored, as a line is added to both.
-use Rattle.std.proofs.Common.{◌≡◌, ◌<◌, ◌≤◌, ◌+◌, ℕ, List, [], ◌∷◌, ◌++◌, Option, Some, None, arith, subst, sym, ap, ◌∙◌, refl, inl, inr, ◌⊎◌, get_or, length, suc, zero, slice_get, append-nil, append_assoc}
+use Rattle.std.proofs.Common.{◌≡◌, ◌<◌, ◌≤◌, ◌+◌, ℕ, Bool, true, List, [], ◌∷◌, ◌++◌, Option, Some, None, arith, subst, sym, ap, ◌∙◌, refl, inl, inr, ◌⊎◌, get_or, length, suc, zero, slice_get, append-nil, append_assoc}
 use Rattle.std.specs.Prelude.{All, Contains, map, option_and_then}
 use Rattle.std.proofs.lemmas.List.{map-append, length-map}
-use Rattle.std.proofs.lemmas.List.Elements.{All-head, All-tail, All-contains, All-push, All-weaker, Contains-append_left, Contains-push, Contains-append_cases}
+use Rattle.std.proofs.lemmas.List.Elements.{All-nil, All-cons, All-head, All-tail, All-contains, All-push, All-weaker, Contains-append_left, Contains-push, Contains-append_cases}
 use Rattle.fsmv_base.specs.declared.citation.Id.{Id}
 use Rattle.fsmv_base.specs.declared.citation.Id.TheVariants.{Axiom, Derived}
-use Rattle.sat_lits.specs.Literals.{variable_of}
-use Rattle.sat_lits.specs.Steps.{numbered, named}
+use Rattle.sat_lits.specs.Literals.{negation, variable_of}
+use Rattle.sat_lits.specs.Steps.{numbered, named, IsFalsified}
 use Rattle.sat_lits.proofs.Numbered.{numbered-append, numbered-last, numbered-push, slice_get-push}
 use Rattle.proof_log.specs.declared.log.Line.{Line}
 use Rattle.proof_log.specs.Logged.{Logged, live_lines, live_lines_at}
@@ -15,8 +15,8 @@ use Rattle.sat_arena.specs.Newness.{IsNew}
 use Rattle.sat_arena.specs.Stored.{Stored}
 use Rattle.sat_arena.specs.ArenaState.{clauses_of}
 use Rattle.sat_analyze.specs.Derived.{AreNamed, HasVariable}
-use Rattle.sat_search.specs.Solvers.{KeepsLog}
-use Rattle.sat_search.specs.Additions.{present, listed_at, Extends, AreNewFrom, HasVariables}
+use Rattle.sat_search.specs.Solvers.{IsCovered, KeepsLog}
+use Rattle.sat_search.specs.Additions.{present, listed_at, Appends, AreNewFrom, HasVariables}
 
 -- a line that stands
 abbrev pub line_of : List ℕ → List Id → Line
@@ -73,6 +73,34 @@ variable_in_axioms axioms clauses v all has =
     (All-contains (λ (l : ℕ). HasVariable axioms (variable_of l)) has.clause has.literal
     (All-contains (λ (clause : List ℕ). All (λ l. HasVariable axioms (variable_of l)) clause) clauses has.clause all has.listed) has.holds)
 
+-- ---- What is covered
+
+pub IsCovered-append : (clauses more : List (List ℕ)) (clause : List ℕ) → IsCovered clauses clause → IsCovered (clauses ++ more) clause
+IsCovered-append clauses more clause covered = elim covered [
+  | inl listed ↦ inl (Contains-append_left clauses more clause listed)
+  | inr unit ↦ inr (unit.0, unit.1, Contains-append_left clauses more (unit.0 ∷ []) unit.2)
+]
+
+-- a unit clause holds its one literal
+pub only : (l m : ℕ) → Contains (l ∷ []) m → m ≡ l
+only l m (zero, within, is) = sym is
+only l m (suc k, within, is) = absurd (omega arith)
+
+-- a unit clause that is covered is one of the clauses
+pub covered_unit : (clauses : List (List ℕ)) (l : ℕ) → IsCovered clauses (l ∷ []) → Contains clauses (l ∷ [])
+covered_unit clauses l covered = elim covered [
+  | inl listed ↦ listed
+  | inr unit ↦ subst (λ (m : ℕ). Contains clauses (m ∷ [])) (only l unit.0 unit.1) unit.2
+]
+
+-- where no clause is false, no covered one is
+pub covered_not_false : (known : ℕ → Bool) (clauses : List (List ℕ)) (clause : List ℕ) → All (λ c. IsFalsified known c → ⊥) clauses → IsCovered clauses clause → IsFalsified known clause → ⊥
+covered_not_false known clauses clause none covered falsified = elim covered [
+  | inl listed ↦ All-contains (λ (c : List ℕ). IsFalsified known c → ⊥) clauses clause none listed falsified
+  | inr unit ↦ All-contains (λ (c : List ℕ). IsFalsified known c → ⊥) clauses (unit.0 ∷ []) none unit.2
+      (All-cons (λ (l : ℕ). known (negation l) ≡ true) unit.0 [] (All-contains (λ (l : ℕ). known (negation l) ≡ true) clause unit.0 falsified unit.1) (All-nil (λ (l : ℕ). known (negation l) ≡ true)))
+]
+
 pub KeepsLog-record : (log : Logged) (stored : List Stored) (clause : List ℕ) (hints : List Id) (id : Id) → KeepsLog log stored → All (λ l. HasVariable (clauses_of stored) (variable_of l)) clause → id ≡ Derived (length log.lines + 1) → KeepsLog (with_line log clause hints) (stored ++ record { clause = clause; id = id } ∷ [])
 KeepsLog-record log stored clause hints id keeps variables id_is =
     let more : live_lines (log.lines ++ line_of clause hints ∷ []) ≡ live_lines log.lines ++ Some clause ∷ [] = live_lines-push log.lines (line_of clause hints) in
@@ -85,10 +113,10 @@ KeepsLog-record log stored clause hints id keeps variables id_is =
           (λ s is. named_push log.axioms (live_lines log.lines) (Some clause) s.id s.clause is) stored keeps.names)
           (subst (λ (i : Id). named log.axioms (live_lines log.lines ++ Some clause ∷ []) i ≡ Some clause) (sym (id_is ∙ ap (λ n. Derived (n + 1)) (sym long)))
           (derived_named log.axioms (live_lines log.lines ++ Some clause ∷ []) (length (live_lines log.lines) + 1) clause (numbered-last (live_lines log.lines) (Some clause)))));
-      listed = λ other c is. subst (λ (cs : List (List ℕ)). Contains cs c) (sym all)
+      listed = λ other c is. subst (λ (cs : List (List ℕ)). IsCovered cs c) (sym all)
           (elim (named_push_cases log.axioms (live_lines log.lines) clause other c (subst (λ (lines : List (Option (List ℕ))). named log.axioms lines other ≡ Some c) more is)) [
-            | inl before ↦ Contains-append_left (clauses_of stored) (clause ∷ []) c (keeps.listed other c before)
-            | inr same ↦ subst (λ (x : List ℕ). Contains (clauses_of stored ++ clause ∷ []) x) same (Contains-push (clauses_of stored) clause)
+            | inl before ↦ IsCovered-append (clauses_of stored) (clause ∷ []) c (keeps.listed other c before)
+            | inr same ↦ inl (subst (λ (x : List ℕ). Contains (clauses_of stored ++ clause ∷ []) x) same (Contains-push (clauses_of stored) clause))
           ]);
       variables = subst (λ (cs : List (List ℕ)). All (λ c. All (λ l. HasVariable log.axioms (variable_of l)) c) cs) (sym all)
           (All-push (λ (c : List ℕ). All (λ l. HasVariable log.axioms (variable_of l)) c) (clauses_of stored) clause keeps.variables
@@ -129,20 +157,20 @@ listed_has_name log retired clause holds = elim (Contains-append_cases log.axiom
       (Derived at.0, derived_named log.axioms (live_lines log.lines) at.0 clause at.1)
 ]
 
--- so it is stored
-pub listed_is_stored : (log : Logged) (stored : List Stored) → KeepsLog log stored → ((i count : ℕ) (line : Line) → slice_get log.lines i ≡ Some line → line.retired ≡ Some count → count ≤ length log.lines) → (clause : List ℕ) → Contains (listed_at (length log.lines) log) clause → Contains (clauses_of stored) clause
-listed_is_stored log stored keeps retired clause holds = let at = listed_has_name log retired clause holds in keeps.listed at.0 clause at.1
+-- so it is covered
+pub listed_is_covered : (log : Logged) (stored : List Stored) → KeepsLog log stored → ((i count : ℕ) (line : Line) → slice_get log.lines i ≡ Some line → line.retired ≡ Some count → count ≤ length log.lines) → (clause : List ℕ) → Contains (listed_at (length log.lines) log) clause → IsCovered (clauses_of stored) clause
+listed_is_covered log stored keeps retired clause holds = let at = listed_has_name log retired clause holds in keeps.listed at.0 clause at.1
 
 -- ---- The lines that were added
 
-pub Extends-refl : (log : Logged) → Extends log log
-Extends-refl log = record { axioms = refl; more = []; lines = sym (append-nil log.lines) }
+pub Appends-refl : (log : Logged) → Appends log log
+Appends-refl log = record { axioms = refl; more = []; lines = sym (append-nil log.lines) }
 
-pub Extends-record : (old log : Logged) (clause : List ℕ) (hints : List Id) → Extends old log → Extends old (with_line log clause hints)
-Extends-record old log clause hints extends = record {
-  axioms = extends.axioms;
-  more = extends.more ++ line_of clause hints ∷ [];
-  lines = ap (λ (lines : List Line). lines ++ line_of clause hints ∷ []) extends.lines ∙ append_assoc old.lines extends.more (line_of clause hints ∷ []);
+pub Appends-record : (old log : Logged) (clause : List ℕ) (hints : List Id) → Appends old log → Appends old (with_line log clause hints)
+Appends-record old log clause hints appends = record {
+  axioms = appends.axioms;
+  more = appends.more ++ line_of clause hints ∷ [];
+  lines = ap (λ (lines : List Line). lines ++ line_of clause hints ∷ []) appends.lines ∙ append_assoc old.lines appends.more (line_of clause hints ∷ []);
 }
 
 -- what was listed before a line stays so

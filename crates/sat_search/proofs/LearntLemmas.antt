@@ -16,7 +16,8 @@ use Rattle.sat_arena.proofs.TrailLemmas.{consistent, HaveTwoVariables}
 use Rattle.sat_arena.proofs.NewnessLemmas.{OthersAreFalse, IsNewAt-from_settled, not_listed}
 use Rattle.sat_arena.proofs.JustifiedLemmas.{IsJustified-add}
 use Rattle.sat_analyze.specs.Learnt.{Asserts}
-use Rattle.sat_search.specs.Solvers.{IsReady}
+use Rattle.sat_search.specs.Solvers.{IsCovered, IsReady}
+use Rattle.sat_search.proofs.KeepsLemmas.{only}
 use Rattle.sat_arena.proofs.LevelLaws.{current_level_is_greatest, IsSettledBelow-add}
 use Rattle.sat_arena.proofs.TrueInLemmas.{true_in_or_later, true_in_from_up_to}
 
@@ -78,10 +79,15 @@ pub grown_if_false : (entries : List Assigned) (vars : ℕ) (clause : List ℕ) 
 grown_if_false entries vars clause orderly false_there k d within =
     grown_negation vars (get_or clause k d) (grown_if_true entries vars (negation (get_or clause k d)) orderly (false_there k d within))
 
--- a unit clause holds its one literal
-only : (l m : ℕ) → Contains (l ∷ []) m → m ≡ l
-only l m (zero, within, is) = sym is
-only l m (suc k, within, is) = absurd (omega arith)
+-- where the clauses are settled, so is each that they cover
+covered_settled : (known : ℕ → Bool) (clauses : List (List ℕ)) (clause : List ℕ) → All (IsSettled known) clauses → IsCovered clauses clause → IsSettled known clause
+covered_settled known clauses clause settled covered = elim covered [
+  | inl listed ↦ All-contains (IsSettled known) clauses clause settled listed
+  | inr unit ↦ elim (All-contains (IsSettled known) clauses (unit.0 ∷ []) settled unit.2) [
+    | inl has ↦ inl (record { literal = unit.0; holds = unit.1; is_true = subst (λ (m : ℕ). known m ≡ true) (only unit.0 has.literal has.holds) has.is_true })
+    | inr two ↦ absurd (two.differ (only unit.0 two.first two.holds_first ∙ sym (only unit.0 two.second two.holds_second)))
+  ]
+]
 
 -- ---- The learnt clause
 
@@ -116,17 +122,17 @@ module _ (clauses : List (List ℕ)) (entries : List Assigned) (vars : ℕ) (rea
     | inr false_there ↦ false_there
   ]
 
-  -- it is new to propagation over all clauses that are stored
-  pub learnt_is_new : (listed : List (List ℕ)) → ((c : List ℕ) → Contains listed c → Contains clauses c) → IsNew listed clause
-  learnt_is_new listed stored = (
+  -- it is new to propagation over all clauses that are covered
+  pub learnt_is_new : (listed : List (List ℕ)) → ((c : List ℕ) → Contains listed c → IsCovered clauses c) → IsNew listed clause
+  learnt_is_new listed covered = (
     asserts.literal,
     IsNewAt-from_settled listed clause asserts.literal lower
-        (λ k d within. All-contains (IsSettled lower) clauses (get_or listed k d) lower_settled (stored (get_or listed k d) (Contains-get_or listed k d within)))
+        (λ k d within. covered_settled lower clauses (get_or listed k d) lower_settled (covered (get_or listed k d) (Contains-get_or listed k d within)))
         lower_consistent lower_others asserts.holds lower_open,
   )
 
-  pub learnt_is_not_stored : Contains clauses clause → ⊥
-  learnt_is_not_stored listed = not_listed clauses clause asserts.literal lower lower_settled lower_consistent lower_others lower_open listed
+  learnt_is_not_listed : Contains clauses clause → ⊥
+  learnt_is_not_listed listed = not_listed clauses clause asserts.literal lower lower_settled lower_consistent lower_others lower_open listed
 
   -- it holds no literal that stands as a unit clause
   pub learnt_has_no_unit : (l : ℕ) → Contains clauses (l ∷ []) → Contains clause l → ⊥
@@ -135,6 +141,12 @@ module _ (clauses : List (List ℕ)) (entries : List Assigned) (vars : ℕ) (rea
         (let same : has.literal ≡ l = only l has.literal has.holds in
         consistent entries vars ready.orderly l (true_in_from_up_to (current_level entries - 1) entries l (subst (λ n. lower n ≡ true) same has.is_true)) (false_literal l holds))
     | inr two ↦ two.differ (only l two.first two.holds_first ∙ sym (only l two.second two.holds_second))
+  ]
+
+  pub learnt_is_not_covered : IsCovered clauses clause → ⊥
+  learnt_is_not_covered covered = elim covered [
+    | inl listed ↦ learnt_is_not_listed listed
+    | inr unit ↦ learnt_has_no_unit unit.0 unit.2 unit.1
   ]
 
   -- below the level to which the search goes back, two of its literals are not false

@@ -8,3 +8,4 @@ pub mod RunLemmas
 pub mod ModelLemmas
 pub mod FoundLemmas
 pub mod GrowthLemmas
+pub mod RetireLemmas

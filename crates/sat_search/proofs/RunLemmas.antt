@@ -15,7 +15,7 @@ use Rattle.sat_search.specs.Additions.{HasVariables}
 use Rattle.sat_search.specs.Endings.{IsRefused, ContinuesTo, AddsNewLine}
 use Rattle.sat_search.proofs.ClashLemmas.{Contains-from_search, search_finds}
 use Rattle.sat_arena.proofs.TrueInLemmas.{true_in_from_take}
-use Rattle.sat_search.proofs.KeepsLemmas.{with_line, line_of, slice_get_within, Extends-refl, Extends-record, AreNewFrom-record}
+use Rattle.sat_search.proofs.KeepsLemmas.{with_line, line_of, slice_get_within, Appends-refl, Appends-record, AreNewFrom-record}
 
 pub IsRefused-loop_ended : (literal_set : List Bool) (assumptions : List ℕ) (entries : List Assigned) (vars lit : ℕ) → IsOrderly entries vars → ((l : ℕ) → marked literal_set l ≡ assumed assumptions l) → (HasClash assumptions → ⊥) → AssumesFirst assumptions entries → Contains assumptions lit × (true_in entries (negation lit) ≡ true) → IsRefused (marked literal_set) entries lit
 IsRefused-loop_ended literal_set assumptions entries vars lit orderly same no_clash assumes (holds, false_there) = record {
@@ -33,7 +33,7 @@ IsRefused-loop_ended literal_set assumptions entries vars lit orderly same no_cl
 
 pub ContinuesTo-refl : (log : Logged) (most : ℕ) → ContinuesTo log log most
 ContinuesTo-refl log most = record {
-  extends = Extends-refl log;
+  appends = Appends-refl log;
   news = λ i line from is. absurd (let inside : i < length log.lines = slice_get_within log.lines i line is in omega arith);
   within = λ more. absurd (omega arith);
   variables = λ before. before;
@@ -44,7 +44,7 @@ ContinuesTo-step old mid new most before adds =
     let long : length (with_line mid adds.clause adds.hints).lines ≡ length mid.lines + 1 = length_push mid.lines (line_of adds.clause adds.hints) in
     let room : length mid.lines < most = adds.room in
     subst (λ (log : Logged). ContinuesTo old log most) (sym adds.is) (record {
-      extends = Extends-record old mid adds.clause adds.hints before.extends;
+      appends = Appends-record old mid adds.clause adds.hints before.appends;
       news = AreNewFrom-record (length old.lines) mid adds.clause adds.hints before.news adds.is_new;
       within = λ _. omega arith;
       variables = λ first. subst HasVariables adds.is (adds.variables (before.variables first));

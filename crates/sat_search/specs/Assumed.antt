@@ -26,7 +26,7 @@ pub record AssumesFirst (assumptions : List ℕ) (entries : List Assigned) : Typ
   pub first : (i : ℕ) (entry : Assigned) → IsEntryAt entries i entry → entry.reason ≡ None
       → Contains assumptions entry.lit ⊎ AllTrue assumptions (take i entries)
 
--- the id names an axiom or a live_lines line that is false where these literals are true
+-- the id names an axiom or a live line that is false where these literals are true
 pub record IsFalsifiedUnder (negated : ℕ → Bool) (log : Logged) (id : Id) : Type 0 where
   pub clause : List ℕ
   pub names : named log.axioms (live_lines log.lines) id ≡ Some clause
@@ -37,7 +37,7 @@ abbrev pub AreNotFalsifiedUnder : (ℕ → Bool) → List (List ℕ) → Type 0
 AreNotFalsifiedUnder negated listed = (clause : List ℕ) → Contains listed clause
     → IsFalsified negated clause → ⊥
 
--- no axiom or live_lines line is false where these literals are true
+-- no axiom or live line is false where these literals are true
 abbrev pub NoneIsFalsifiedUnder : (ℕ → Bool) → Logged → Type 0
 NoneIsFalsifiedUnder negated log = (id : Id) (clause : List ℕ)
     → named log.axioms (live_lines log.lines) id ≡ Some clause → IsFalsified negated clause → ⊥

@@ -15,7 +15,7 @@ use Rattle.sat_analyze.specs.Derived.{HasVariable}
 use Rattle.sat_search.specs.Orders.{AllAssigned}
 use Rattle.sat_search.specs.Assumed.{AllTrue, IsFalsifiedUnder, NoneIsFalsifiedUnder, AreNotFalsifiedUnder}
 use Rattle.sat_search.specs.LoopEnds.{AreSettled}
-use Rattle.sat_search.specs.Additions.{Extends, AreNewFrom, HasVariables, NoneSubsumes, listed_at}
+use Rattle.sat_search.specs.Additions.{Appends, AreNewFrom, HasVariables, NoneSubsumes, listed_at}
 use Rattle.sat_search.specs.declared.solver.Solver.{Solver}
 use Rattle.sat_search.specs.declared.answer.Answer.{Answer}
 use Rattle.sat_search.specs.declared.answer.Answer.TheVariants.{Model, Core, Spent}
@@ -73,7 +73,7 @@ pub record EndsBy (assumed : ℕ → Bool) (old new : Logged) (most : ℕ) (answ
 
 -- a search went on from one log to the other, and each line that it added is new to propagation where it stands
 pub record ContinuesTo (old new : Logged) (most : ℕ) : Type 0 where
-  pub extends : Extends old new
+  pub appends : Appends old new
   pub news : AreNewFrom (length old.lines) new
   pub within : length old.lines < length new.lines → length new.lines ≤ most
   pub variables : HasVariables old → HasVariables new

@@ -9,3 +9,4 @@ pub mod Sessions
 pub mod Founds
 pub mod Axioms
 pub mod SessionState
+pub mod Retirements

@@ -1,5 +1,5 @@
 -- What a search keeps between its steps.
-use Rattle.std.specs.Prelude.{◌≡◌, ℕ, List, Some, All, Contains}
+use Rattle.std.specs.Prelude.{◌≡◌, ℕ, ◌⊎◌, List, [], ◌∷◌, Some, All, Contains}
 use Rattle.fsmv_base.specs.declared.citation.Id.{Id}
 use Rattle.sat_lits.specs.Literals.{variable_of}
 use Rattle.sat_lits.specs.Steps.{named}
@@ -13,11 +13,17 @@ use Rattle.sat_analyze.specs.Derived.{AreNamed, HasVariable}
 use Rattle.sat_arena.specs.Levels.{IsSettledBelow}
 use Rattle.sat_search.specs.declared.solver.Solver.{Solver}
 
--- the stored clauses are the axioms and the lines of the log that stand, under their ids
+-- the clause is one of these, or holds the literal of a unit clause among them
+abbrev pub IsCovered : List (List ℕ) → List ℕ → Type 0
+IsCovered clauses clause = Contains clauses clause
+    ⊎ ((l : ℕ) × Contains clause l × Contains clauses (l ∷ []))
+
+-- the stored clauses are axioms and live lines of the log, under their ids, and each axiom or live line is stored, or
+-- holds the literal of a unit clause that is
 pub record KeepsLog (log : Logged) (stored : List Stored) : Type 0 where
   pub names : AreNamed log.axioms (live_lines log.lines) stored
   pub listed : (id : Id) (clause : List ℕ) → named log.axioms (live_lines log.lines) id
-      ≡ Some clause → Contains (clauses_of stored) clause
+      ≡ Some clause → IsCovered (clauses_of stored) clause
   pub variables : All (λ clause. All (λ l. HasVariable log.axioms (variable_of l)) clause)
       (clauses_of stored)
 

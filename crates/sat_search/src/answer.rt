@@ -6,9 +6,9 @@ use fsmv_base::Id;
 pub enum Answer {
     /// They have a common model, which the session tells.
     Model,
-    /// The clause of this id, an axiom or a live_lines line, holds only negated assumptions.
+    /// The clause of this id, an axiom or a live line, holds only negated assumptions.
     Core { id: Id },
-    /// The log has as many lines as were allowed, and no axiom or live_lines line holds only negated
+    /// The log has as many lines as were allowed, and no axiom or live line holds only negated
     /// assumptions.
     Spent,
 }

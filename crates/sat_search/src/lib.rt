@@ -3,7 +3,6 @@
 
 mod analysis;
 mod answer;
-mod assumption_set;
 mod clashes;
 mod conclusion;
 mod decide_loop;
@@ -11,8 +10,10 @@ mod found;
 mod growth;
 mod heap;
 mod learning;
+mod literal_set;
 mod order;
 mod restarts;
+mod retirement;
 mod run;
 mod session;
 mod solver;

@@ -5,9 +5,10 @@ ghost use Rattle.sat_arena.specs.Trails.{IsGrown, marked};
 ghost use Rattle.sat_arena.specs.ArenaState.{AreGrown};
 ghost use Rattle.sat_search.specs.Clashes.{HasClash};
 ghost use Rattle.sat_search.specs.Additions.{HasVariables};
+ghost use Rattle.sat_search.specs.Retirements.{RetiresSome};
 
 use crate::answer::Answer;
-use crate::assumption_set::AssumptionSet;
+use crate::literal_set::LiteralSet;
 use crate::solver::Solver;
 use fsmv_base::NoMemory;
 use proof_log::Log;
@@ -19,7 +20,7 @@ use std::marker::Model;
 /// Clauses that are searched for models under assumptions, again and again, and the log of what was
 /// derived from them.
 ///
-/// A session ends for good where memory runs out, or when it is true_in to. Its log then stays right.
+/// A session ends for good where memory runs out, or when `end` is called. Its log then stays right.
 ///
 /// Contracts see the log, the greatest variable, how often a solution was asked for, whether the session
 /// has ended, and the model that the last search found.
@@ -28,7 +29,10 @@ pub struct Session {
     alloc: Global,
     solver: Solver,
     analyzer: Analyzer,
-    assumed: AssumptionSet,
+    assumed: LiteralSet,
+    units: LiteralSet,
+    /// How many lines were looked at for unit clauses.
+    seen: u32,
     axioms: u32,
     vars: u32,
     asked: u64,
@@ -72,7 +76,9 @@ impl Session {
             alloc,
             solver: Solver::new(alloc),
             analyzer: Analyzer::new(alloc),
-            assumed: AssumptionSet::new(alloc),
+            assumed: LiteralSet::new(alloc),
+            units: LiteralSet::new(alloc),
+            seen: 0,
             axioms: 0,
             vars: 0,
             asked: 0,
@@ -137,7 +143,7 @@ impl Session {
         }
     }
 
-    /// Looks for values that satisfy all axioms, all live_lines lines and the assumptions. It adds a line
+    /// Looks for values that satisfy all axioms, all live lines and the assumptions. It adds a line
     /// to the log only while there are fewer than `most`. After `NoMemory` the session has ended.
     pub fn solve(&mut self, assumptions: &[Lit], most: u32) -> Result<Answer, NoMemory>
         requires grown { All (IsGrown self.old.vars) assumptions.now }
@@ -157,6 +163,9 @@ impl Session {
         if self.ended {
             return Err(NoMemory);
         }
+        if let Err(error) = self.retire() {
+            return Err(error);
+        }
         if let Err(error) = self.assumed.fill(assumptions, self.vars) {
             self.ended = true;
             return Err(error);
@@ -174,6 +183,29 @@ impl Session {
             Ok(found) => {
                 self.model = found.values;
                 Ok(found.answer)
+            }
+            Err(error) => {
+                self.ended = true;
+                Err(error)
+            }
+        }
+    }
+
+    /// Retires the lines that hold the literal of a unit clause which was derived since the last search, and
+    /// takes out the clauses that do. After `NoMemory` the session has ended; its log is unchanged.
+    fn retire(&mut self) -> Result<(), NoMemory>
+        requires { self.old.ended ≡ false }
+        ensures ok { OnOk result (self.new ≡ record self.old { log = self.new.log }) }
+        ensures retired { OnOk result (RetiresSome self.old.log self.new.log) }
+        ensures err { OnErr result (self.new ≡ record self.old { ended = true }) }
+    {
+        match self
+            .solver
+            .retire(self.alloc, &mut self.units, self.seen, self.vars)
+        {
+            Ok(()) => {
+                self.seen = self.solver.log.derived();
+                Ok(())
             }
             Err(error) => {
                 self.ended = true;

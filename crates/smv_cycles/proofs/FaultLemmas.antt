@@ -1,5 +1,5 @@
 -- The faults by slots are those of the program.
-use Rattle.std.proofs.Common.{◌≡◌, ℕ, suc, ◌+◌, ◌<◌, Bool, true, false, List, [], ◌∷◌, length, map, Option, Some, None, refl, sym, ap, ◌∙◌, subst, arith, length-append, if◌then◌else◌, nat_eq, nat_lt, codes}
+use Rattle.std.proofs.Common.{◌≡◌, ℕ, suc, ◌+◌, ◌<◌, Bool, true, false, List, [], ◌∷◌, ◌++◌, length, map, Option, Some, None, refl, sym, ap, ◌∙◌, subst, arith, length-append, if◌then◌else◌, nat_eq, nat_lt, codes}
 use Rattle.std.specs.Prelude.{slice_get}
 use Rattle.std.specs.Option.{option_map}
 use mathlib.Core.Path.{fun_ext}
@@ -17,8 +17,9 @@ use Rattle.smv_meaning.specs.Value.{Name, and_then}
 use Rattle.fixpoint.specs.Fixpoints.{entry}
 use Rattle.smv_meaning.specs.Paths.{QualifiedName, Binding}
 use Rattle.smv_meaning.specs.Instances.{Entry, Instance, Main, Within, path_of, depth_of, called_at, module_named, module_at, entries, instances, binding_at}
-use Rattle.smv_meaning.specs.Runs.{or_else, first_fault}
-use Rattle.smv_meaning.specs.InstanceTable.{renumbered, binding_view, entries_at, row_instances, instance_of_link}
+use Rattle.smv_meaning.specs.ItemIndex.{items_at}
+use Rattle.smv_meaning.specs.Runs.{or_else, first_fault, path_text}
+use Rattle.smv_meaning.specs.InstanceTable.{called_of, renumbered, binding_view, entries_at, row_instances, instance_of_link}
 use Rattle.smv_meaning.specs.Slots.{slot_of, binding_in, AreAliases}
 use Rattle.smv_meaning.specs.Valuation.{link_of}
 use Rattle.smv_meaning.specs.Checking.{IsTableOfProgram, AreRows, instance_at}
@@ -28,10 +29,11 @@ use Rattle.smv_meaning.proofs.RunLemmas.{first_mapped}
 use Rattle.graph.specs.Graphs.{successors_in, on_cycle, cycle_of}
 use Rattle.graph.proofs.Renaming as renaming
 use Rattle.smv_cycles.specs.Reads.{Edge, tallest, heights, read_by, own_cycle}
-use Rattle.smv_cycles.specs.Held.{edges_view, edges_at, slot_edges, edges_in}
+use Rattle.smv_cycles.specs.EdgesBySlot.{edges_view, edges_at, slot_edges, edges_in}
 use Rattle.smv_cycles.specs.Cycles as spec
-use Rattle.smv_cycles.specs.HeldCycles as number
-use Rattle.smv_cycles.proofs.HeightLemmas.{then_some, in_some, no_edges}
+use Rattle.smv_cycles.specs.CyclesBySlot as number
+use Rattle.smv_meaning.proofs.BindingLemmas.{then_some}
+use Rattle.smv_cycles.proofs.HeightLemmas.{in_some, no_edges}
 use Rattle.smv_cycles.proofs.MovedLemmas as moved
 use Rattle.smv_cycles.proofs.ProgramLemmas as names
 
@@ -64,7 +66,7 @@ module _ (program : Program) (table : InstanceTable) (right : IsTableOfProgram p
   module_is : (row : ℕ) → row < length table.rows → number.module_row program table row ≡ module_at program (instance_at table row)
   module_is row h = ap (module_named program) (called (number.link_at table row) ∙ ap called_at (sym (instance_at_is row h)))
     where
-      called : (l : Option Link) → number.called_of l ≡ called_at (instance_of_link (row_instances table.rows) l)
+      called : (l : Option Link) → called_of l ≡ called_at (instance_of_link (row_instances table.rows) l)
       called None = refl
       called (Some l) = refl
 
@@ -95,16 +97,16 @@ module _ (program : Program) (table : InstanceTable) (right : IsTableOfProgram p
     abbrev sl : QualifiedName Instance → List (QualifiedName Instance)
     sl = read_by el
 
-    cycle_is : (k : ℕ) → R k → map f (cycle_of sk nat_eq k) ≡ cycle_of sl spec.same_spot (f k)
-    cycle_is = renaming.cycle_same f R sk sl (names.reads_over program table right aliases is_of graph seen) (names.reads_inside program table right aliases is_of graph seen) nat_eq spec.same_spot (names.slots_same program table right one)
+    cycle_is : (k : ℕ) → R k → map f (cycle_of sk nat_eq k) ≡ cycle_of sl spec.same_name (f k)
+    cycle_is = renaming.cycle_same f R sk sl (names.reads_over program table right aliases is_of graph seen) (names.reads_inside program table right aliases is_of graph seen) nat_eq spec.same_name (names.slots_same program table right one)
 
     cycle_within : (k : ℕ) → R k → renaming.AllIn R (cycle_of sk nat_eq k)
-    cycle_within = renaming.cycle_in f R sk sl (names.reads_over program table right aliases is_of graph seen) (names.reads_inside program table right aliases is_of graph seen) nat_eq spec.same_spot (names.slots_same program table right one)
+    cycle_within = renaming.cycle_in f R sk sl (names.reads_over program table right aliases is_of graph seen) (names.reads_inside program table right aliases is_of graph seen) nat_eq spec.same_name (names.slots_same program table right one)
 
-    own_is : (k : ℕ) → R k → option_map f (number.if_on_cycle (number.targets graph) k) ≡ own_cycle el spec.same_spot (f k)
+    own_is : (k : ℕ) → R k → option_map f (number.if_on_cycle (number.targets graph) k) ≡ own_cycle el spec.same_name (f k)
     own_is k i =
         chosen (on_cycle (number.targets graph) k)
-        ∙ ap (λ (b : Bool). if b then Some (f k) else None) (renaming.on_cycle_same f R sk sl (names.reads_over program table right aliases is_of graph seen) (names.reads_inside program table right aliases is_of graph seen) nat_eq spec.same_spot (names.slots_same program table right one) k i)
+        ∙ ap (λ (b : Bool). if b then Some (f k) else None) (renaming.on_cycle_same f R sk sl (names.reads_over program table right aliases is_of graph seen) (names.reads_inside program table right aliases is_of graph seen) nat_eq spec.same_name (names.slots_same program table right one) k i)
       where
         chosen : (b : Bool) → option_map f (if b then Some k else None) ≡ (if b then Some (f k) else None)
         chosen true = refl
@@ -112,7 +114,7 @@ module _ (program : Program) (table : InstanceTable) (right : IsTableOfProgram p
 
     -- ---- the first cycle
 
-    name_is : (row : ℕ) → row < length table.rows → (name : Name) → option_map f (number.name_cycle table (number.targets graph) row name) ≡ own_cycle el spec.same_spot (record { instance = instance_at table row; name = name })
+    name_is : (row : ℕ) → row < length table.rows → (name : Name) → option_map f (number.name_cycle table (number.targets graph) row name) ≡ own_cycle el spec.same_name (record { instance = instance_at table row; name = name })
     name_is row h name = at (slot_of table qualified) refl
       where
         qualified : QualifiedName ℕ
@@ -121,18 +123,18 @@ module _ (program : Program) (table : InstanceTable) (right : IsTableOfProgram p
         this : QualifiedName Instance
         this = record { instance = instance_at table row; name = name }
 
-        nothing : slot_of table (record { instance = row; name = name }) ≡ None → own_cycle el spec.same_spot (record { instance = instance_at table row; name = name }) ≡ None
+        nothing : slot_of table (record { instance = row; name = name }) ≡ None → own_cycle el spec.same_name (record { instance = instance_at table row; name = name }) ≡ None
         nothing e =
             let m : binding_in table (record { instance = row; name = name }) ≡ None = ap (λ (o : Option ℕ). and_then o (λ k. and_then (slice_get table.slots k) (λ slot. Some (binding_view slot.binding)))) e in
             let p : binding_at program (record { instance = instance_at table row; name = name }) ≡ None = sym (same_binding program table right row name h).same ∙ ap (option_map (renumbered (instance_at table))) m in
-            no_edges el spec.same_spot (record { instance = instance_at table row; name = name }) (ap (λ (o : Option (Binding Instance)). and_then o (spec.edges_by (binding_at program) (record { instance = instance_at table row; name = name }))) p)
+            no_edges el spec.same_name (record { instance = instance_at table row; name = name }) (ap (λ (o : Option (Binding Instance)). and_then o (spec.edges_by (binding_at program) (record { instance = instance_at table row; name = name }))) p)
 
-        at : (o : Option ℕ) → slot_of table (record { instance = row; name = name }) ≡ o → option_map f (number.name_cycle table (number.targets graph) row name) ≡ own_cycle el spec.same_spot (record { instance = instance_at table row; name = name })
+        at : (o : Option ℕ) → slot_of table (record { instance = row; name = name }) ≡ o → option_map f (number.name_cycle table (number.targets graph) row name) ≡ own_cycle el spec.same_name (record { instance = instance_at table row; name = name })
         at None e = ap (λ (o : Option ℕ). option_map f (and_then o (number.if_on_cycle (number.targets graph)))) e ∙ sym (nothing e)
         at (Some k) e =
             let i : R k = record { qualified = record { instance = row; name = name }; within = h; at = e } in
             ap (λ (o : Option ℕ). option_map f (and_then o (number.if_on_cycle (number.targets graph)))) e
-            ∙ (own_is k i ∙ ap (own_cycle el spec.same_spot) (names.of_is program table right k i))
+            ∙ (own_is k i ∙ ap (own_cycle el spec.same_name) (names.of_is program table right k i))
 
     name_within : (row : ℕ) (name : Name) (c : ℕ) → number.name_cycle table (number.targets graph) row name ≡ Some c → R c
     name_within row name c e =
@@ -145,12 +147,12 @@ module _ (program : Program) (table : InstanceTable) (right : IsTableOfProgram p
         own false g = cc
 
     abbrev instance_cycle : Instance → Option (QualifiedName Instance)
-    instance_cycle instance = first_fault (λ e. own_cycle el spec.same_spot (record { instance = instance; name = e.name })) (entries (module_at program instance))
+    instance_cycle instance = first_fault (λ e. own_cycle el spec.same_name (record { instance = instance; name = e.name })) (entries (module_at program instance))
 
     row_is : (row : ℕ) → row < length table.rows → option_map f (number.row_cycle table (number.targets graph) row (entries_at table.rows row)) ≡ instance_cycle (instance_at table row)
     row_is row h =
-        mapped_first f (λ (e : Entry). number.name_cycle table (number.targets graph) row e.name) (λ (e : Entry). own_cycle el spec.same_spot (record { instance = instance_at table row; name = e.name })) (λ e. name_is row h e.name) (entries_at table.rows row)
-        ∙ ap (first_fault (λ (e : Entry). own_cycle el spec.same_spot (record { instance = instance_at table row; name = e.name }))) (names_at program table.rows row right.rows h)
+        mapped_first f (λ (e : Entry). number.name_cycle table (number.targets graph) row e.name) (λ (e : Entry). own_cycle el spec.same_name (record { instance = instance_at table row; name = e.name })) (λ e. name_is row h e.name) (entries_at table.rows row)
+        ∙ ap (first_fault (λ (e : Entry). own_cycle el spec.same_name (record { instance = instance_at table row; name = e.name }))) (names_at program table.rows row right.rows h)
 
     rows_are : (order : List ℕ) → AreRows table order → option_map f (number.first_cycle table (number.targets graph) order) ≡ first_fault (λ row. instance_cycle (instance_at table row)) order
     rows_are [] h = refl
@@ -171,7 +173,7 @@ module _ (program : Program) (table : InstanceTable) (right : IsTableOfProgram p
         let s = names.slot program table right k i in
         let r = row_at table.rows s.row (names.row_within program table right k i) in
         ap (number.slot_text table) (names.get program table right k i)
-        ∙ (ap (number.row_name_text table s.row s.name.now) r.1
+        ∙ (ap (λ (o : Option Row). number.or_empty_text (and_then o (λ row. Some (path_text (path_of (instance_at table s.row) ++ s.name.now ∷ []))))) r.1
         ∙ ap spec.qualified_text (ap (names.renumbered_name program table right) (names.spelt program table right k i) ∙ sym (names.of_is program table right k i)))
 
     texts_are : (ks : List ℕ) → renaming.AllIn R ks → number.slot_texts table ks ≡ map spec.qualified_text (map f ks)
@@ -200,20 +202,16 @@ module _ (program : Program) (table : InstanceTable) (right : IsTableOfProgram p
           ap spec.is_high (moved.tallest_same f R (entry solution) (spec.program_heights program) (λ k r. known_of k ∙ heights_are k r) (edges_in table aliases row e) s.inside 0
           ∙ ap (tallest (spec.program_heights program) 0) s.same)
 
-      abbrev instance_nested : Instance → Option Span
-      instance_nested p = spec.nested_in (spec.high_in program p) (spec.deep_in p) (module_at program p).sections
-
-      nested_is : (row : ℕ) → row < length table.rows → number.nested_row program table aliases solution row ≡ instance_nested (instance_at table row)
+      nested_is : (row : ℕ) → row < length table.rows → number.nested_row program table aliases solution row ≡ spec.nested_within program (instance_at table row)
       nested_is row h =
-          ap (λ (high : Expr → Bool). spec.nested_in high (number.deep_row table row) (number.module_row program table row).sections) (fun_ext (high_is row h))
-          ∙ (ap (λ (deep : Bool). spec.nested_in (spec.high_in program (instance_at table row)) deep (number.module_row program table row).sections) (deep_is row h)
-          ∙ ap (λ (m : Module). spec.nested_in (spec.high_in program (instance_at table row)) (spec.deep_in (instance_at table row)) m.sections) (module_is row h))
+          ap (λ (high : Expr → Bool). first_fault (spec.nested_item high (number.deep_row table row)) (items_at program (instance_at table row))) (fun_ext (high_is row h))
+          ∙ ap (λ (deep : Bool). first_fault (spec.nested_item (spec.high_in program (instance_at table row)) deep) (items_at program (instance_at table row))) (deep_is row h)
 
-      nested_are : (order : List ℕ) → AreRows table order → number.nested_rows program table aliases solution order ≡ first_fault (λ row. instance_nested (instance_at table row)) order
+      nested_are : (order : List ℕ) → AreRows table order → number.nesting_fault program table aliases solution order ≡ first_fault (λ row. spec.nested_within program (instance_at table row)) order
       nested_are [] h = refl
       nested_are (row ∷ order) h =
-          ap (λ (o : Option Span). or_else o (number.nested_rows program table aliases solution order)) (nested_is row (h 0 0 (omega arith)))
-          ∙ ap (or_else (instance_nested (instance_at table row))) (nested_are order (λ k d g. h (suc k) d (omega arith)))
+          ap (λ (o : Option Fault). or_else o (number.nesting_fault program table aliases solution order)) (nested_is row (h 0 0 (omega arith)))
+          ∙ ap (or_else (spec.nested_within program (instance_at table row))) (nested_are order (λ k d g. h (suc k) d (omega arith)))
 
       -- ---- both checks
 
@@ -228,8 +226,8 @@ module _ (program : Program) (table : InstanceTable) (right : IsTableOfProgram p
             at None e = refl
             at (Some k) e = ap Some (fault_is k (first_within order k e))
 
-        nestings_are : number.nesting_fault program table aliases solution order ≡ and_then (spec.nested_at program) (λ at. Some (fault.TooNested (Some at)))
-        nestings_are = ap (λ (o : Option Span). and_then o (λ at. Some (fault.TooNested (Some at)))) (nested_are order rows ∙ (sym (first_mapped instance_nested (instance_at table) order) ∙ ap (first_fault instance_nested) ordered))
+        nestings_are : number.nesting_fault program table aliases solution order ≡ spec.nesting_fault program
+        nestings_are = nested_are order rows ∙ (sym (first_mapped (spec.nested_within program) (instance_at table) order) ∙ ap (first_fault (spec.nested_within program)) ordered)
 
         -- the faults by slots are those of the program
         pub faults_are : number.graph_fault program table aliases (number.targets graph) solution order ≡ spec.cycles_fault program

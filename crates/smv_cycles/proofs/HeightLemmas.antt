@@ -1,15 +1,10 @@
 -- Small laws of options; a vertex without edges is on no cycle.
-use Rattle.std.proofs.Common.{◌≡◌, ℕ, zero, suc, Bool, true, List, [], Option, Some, None, refl, ap, if◌then◌else◌}
+use Rattle.std.proofs.Common.{◌≡◌, ℕ, zero, suc, Bool, List, [], Option, Some, None, refl, ap, if◌then◌else◌}
 use Rattle.std.specs.Prelude.{is_some}
 use Rattle.std.specs.List.{find}
-use Rattle.smv_meaning.specs.Value.{and_then}
 use Rattle.fixpoint.specs.Fixpoints.{known, most}
 use Rattle.graph.specs.Graphs.{if_found, leads, reach_step}
 use Rattle.smv_cycles.specs.Reads.{Edge, targets_of, read_by, own_cycle}
-
-pub then_some : {A B : Type 0} (o : Option A) (f : A → Option B) (b : B) → and_then o f ≡ Some b → (a : A) × (o ≡ Some a) × (f a ≡ Some b)
-then_some None f b e = cc
-then_some (Some a) f b e = (a, refl, e)
 
 pub in_some : {A : Type 0} {a b : A} → Some a ≡ Some b → a ≡ b
 in_some e = cc

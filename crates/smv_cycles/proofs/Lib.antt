@@ -1,6 +1,4 @@
 pub mod NodeLemmas
-pub mod SectionLemmas
-pub mod TextLemmas
 pub mod HeightLemmas
 pub mod MovedLemmas
 pub mod ProgramLemmas

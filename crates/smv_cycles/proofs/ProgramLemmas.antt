@@ -5,8 +5,8 @@ use Rattle.std.specs.List.{flat_map}
 use Rattle.std.specs.Option.{option_map, option_to_list}
 use Rattle.std.specs.Str.{bytes_eq}
 use Rattle.std.proofs.lemmas.Slice.Eq.{bytes_eq-Decides}
-use Rattle.std.proofs.lemmas.Bool.{eqb-true, eq-eqb, and_from}
-use Rattle.std.proofs.lemmas.Option.{slice_get-map}
+use Rattle.std.proofs.lemmas.Bool.{eqb-true, eq-eqb, and_from, and_parts}
+use Rattle.std.proofs.lemmas.Option.{slice_get-map, slice_get_within}
 use Rattle.smv_ast.specs.declared.syntax.Expr.{Expr}
 use Rattle.smv_ast.specs.declared.program.Program.{Program}
 use Rattle.smv_meaning.specs.declared.table.InstanceTable.{InstanceTable}
@@ -23,14 +23,14 @@ use Rattle.smv_meaning.specs.Slots.{slot_of, name_of_slot, binding_in, HasSlots,
 use Rattle.smv_meaning.specs.Checking.{IsTableOfProgram, instance_at}
 use Rattle.smv_meaning.proofs.NumberLemmas.{SameName, has_slots, same_binding, aliases_same, resolve_same}
 use Rattle.smv_meaning.proofs.SlotLemmas.{the_slot}
-use Rattle.smv_meaning.proofs.InstanceTableLemmas.{get_within}
 use Rattle.smv_cycles.specs.Nodes.{Node, nodes_of}
 use Rattle.smv_cycles.specs.Reads.{Edge, targets_of, read_by}
-use Rattle.smv_cycles.specs.Held.{edges_view, edges_at, is_read, read_slot, slot_read, edge_in, edges_in, edges_by, slot_edges}
+use Rattle.smv_cycles.specs.EdgesBySlot.{edges_view, edges_at, is_read, read_slot, slot_read, edge_in, edges_in, edges_by, slot_edges}
 use Rattle.smv_cycles.specs.Cycles as spec
 use Rattle.smv_cycles.specs.declared.edges.Edge.{Edge as HeldEdge}
-use Rattle.smv_cycles.specs.HeldCycles.{Graph, OneEach, targets, targets_found}
-use Rattle.smv_cycles.proofs.HeightLemmas.{then_some, in_some}
+use Rattle.smv_cycles.specs.CyclesBySlot.{Graph, OneEach, targets, targets_found}
+use Rattle.smv_meaning.proofs.BindingLemmas.{then_some, some_mapped, resolve_slot_is}
+use Rattle.smv_cycles.proofs.HeightLemmas.{in_some}
 use Rattle.graph.specs.Graphs.{successors_in}
 use Rattle.graph.proofs.Renaming.{AllIn}
 use Rattle.smv_cycles.proofs.MovedLemmas.{moved, TargetIn, EdgesIn, targets_same, targets_in}
@@ -54,45 +54,23 @@ found_targets (Some (Some es)) = edge_targets es
 pub successors_are : (graph : Graph) (k : ℕ) → successors_in (targets graph) k ≡ read_by (edges_at graph) k
 successors_are graph k = ap (λ (o : Option (List ℕ)). unwrap_or o []) (slice_get-map targets_found graph k) ∙ found_targets (slice_get graph k)
 
-some_mapped : {A B : Type 0} (f : A → B) (o : Option A) → is_some (option_map f o) ≡ is_some o
-some_mapped f None = refl
-some_mapped f (Some a) = refl
-
--- a path resolves to a name that has a slot
-slot_found : (table : InstanceTable) (qualified : QualifiedName ℕ) (m : Binding ℕ) → binding_in table qualified ≡ Some m → (k : ℕ) × (slot_of table qualified ≡ Some k)
-slot_found table qualified m e = let r = then_some (slot_of table qualified) (λ k. and_then (slice_get table.slots k) (λ slot. Some (binding_view slot.binding))) m e in (r.0, r.1)
-
-pub resolve_slot_is : (table : InstanceTable) (path : List Name) (row : ℕ) (qualified : QualifiedName ℕ) → resolve (binding_in table) row path ≡ Some qualified → (k : ℕ) × (slot_of table qualified ≡ Some k)
-resolve_slot_is table [] row qualified e = cc
-resolve_slot_is table (name ∷ []) row qualified e =
-    let r = then_some (binding_in table (record { instance = row; name = name })) (λ m. Some (record { instance = row; name = name })) qualified e in
-    let s = slot_found table (record { instance = row; name = name }) r.0 r.1 in
-    (s.0, subst (λ (x : QualifiedName ℕ). slot_of table x ≡ Some s.0) (in_some r.2) s.1)
-resolve_slot_is table (name ∷ next ∷ more) row qualified e =
-    let r = then_some (aliases (binding_in table) (record { instance = row; name = name })) (λ p. resolve (binding_in table) p (next ∷ more)) qualified e in
-    resolve_slot_is table (next ∷ more) r.0 qualified r.2
-
 -- ---- equal names
-
-both_true : (a b : Bool) → (a && b) ≡ true → (a ≡ true) × (b ≡ true)
-both_true true b e = (refl, e)
-both_true false b e = cc
 
 instance_decides : (p q : Instance) → spec.same_instance p q ≡ true → p ≡ q
 instance_decides Main Main e = refl
 instance_decides Main (Within q n c) e = cc
 instance_decides (Within p n c) Main e = cc
 instance_decides (Within p n c) (Within q m d) e =
-    let r = both_true (bytes_eq n m && bytes_eq c d) (spec.same_instance p q) e in
-    let s = both_true (bytes_eq n m) (bytes_eq c d) r.0 in
+    let r = and_parts (bytes_eq n m && bytes_eq c d) (spec.same_instance p q) e in
+    let s = and_parts (bytes_eq n m) (bytes_eq c d) r.0 in
     let i = (bytes_eq-Decides n m).0 s.0 in
     let j = (bytes_eq-Decides c d).0 s.1 in
     let h = instance_decides p q r.1 in
     ap (λ (x : Instance). Within x n c) h ∙ (ap (λ (x : Name). Within q x c) i ∙ ap (Within q m) j)
 
-pub name_decides : (a b : QualifiedName Instance) → spec.same_spot a b ≡ true → a ≡ b
+pub name_decides : (a b : QualifiedName Instance) → spec.same_name a b ≡ true → a ≡ b
 name_decides a b e =
-    let r = both_true (bytes_eq a.name b.name) (spec.same_instance a.instance b.instance) e in
+    let r = and_parts (bytes_eq a.name b.name) (spec.same_instance a.instance b.instance) e in
     let n = (bytes_eq-Decides a.name b.name).0 r.0 in
     let p = instance_decides a.instance b.instance r.1 in
     same p n
@@ -104,7 +82,7 @@ instance_self : (p : Instance) → spec.same_instance p p ≡ true
 instance_self Main = refl
 instance_self (Within p name called) = and_from (bytes_eq name name && bytes_eq called called) (spec.same_instance p p) (and_from (bytes_eq name name) (bytes_eq called called) ((bytes_eq-Decides name name).1 refl) ((bytes_eq-Decides called called).1 refl)) (instance_self p)
 
-name_self : (s : QualifiedName Instance) → spec.same_spot s s ≡ true
+name_self : (s : QualifiedName Instance) → spec.same_name s s ≡ true
 name_self s = and_from (bytes_eq s.name s.name) (spec.same_instance s.instance s.instance) ((bytes_eq-Decides s.name s.name).1 refl) (instance_self s.instance)
 
 module _ (program : Program) (table : InstanceTable) (right : IsTableOfProgram program table) where
@@ -135,7 +113,7 @@ module _ (program : Program) (table : InstanceTable) (right : IsTableOfProgram p
   pub slot_in : (qualified : QualifiedName ℕ) (k : ℕ) → slot_of table qualified ≡ Some k → IsSlot k
   slot_in qualified k e =
       let r = then_some (slice_get table.firsts qualified.instance) (λ first. option_map (λ k. first + k) (first_index qualified.name (entries_at table.rows qualified.instance))) k e in
-      record { qualified = qualified; within = below (get_within table.firsts qualified.instance r.0 r.1) right.count; at = e }
+      record { qualified = qualified; within = below (slice_get_within table.firsts qualified.instance r.0 r.1) right.count; at = e }
     where
       below : qualified.instance < length table.firsts → length table.firsts ≡ length table.rows → qualified.instance < n
       below h c = omega (arith, h, c)
@@ -302,13 +280,13 @@ module _ (program : Program) (table : InstanceTable) (right : IsTableOfProgram p
         in_some (sym i.at ∙ (ap (slot_of table) qualified ∙ j.at))
 
     -- names are equal exactly where their slots are
-    pub slots_same : (a b : ℕ) → IsSlot a → IsSlot b → spec.same_spot (of_slot a) (of_slot b) ≡ nat_eq a b
-    slots_same a b i j = at (spec.same_spot (of_slot a) (of_slot b)) refl
+    pub slots_same : (a b : ℕ) → IsSlot a → IsSlot b → spec.same_name (of_slot a) (of_slot b) ≡ nat_eq a b
+    slots_same a b i j = at (spec.same_name (of_slot a) (of_slot b)) refl
       where
-        at : (t : Bool) → spec.same_spot (of_slot a) (of_slot b) ≡ t → t ≡ nat_eq a b
+        at : (t : Bool) → spec.same_name (of_slot a) (of_slot b) ≡ t → t ≡ nat_eq a b
         at true e = sym (eq-eqb a b (slot_one a b i j (name_decides (of_slot a) (of_slot b) e)))
         at false e = other (nat_eq a b) refl
           where
             other : (t : Bool) → nat_eq a b ≡ t → false ≡ t
             other false f = refl
-            other true f = let g = ap (λ (x : ℕ). spec.same_spot (of_slot a) (of_slot x)) (eqb-true a b f) in absurd (true≢false (sym (name_self (of_slot a)) ∙ (g ∙ e)))
+            other true f = let g = ap (λ (x : ℕ). spec.same_name (of_slot a) (of_slot x)) (eqb-true a b f) in absurd (true≢false (sym (name_self (of_slot a)) ∙ (g ∙ e)))

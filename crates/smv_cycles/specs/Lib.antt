@@ -1,8 +1,8 @@
 pub mod Nodes
 pub mod Reads
 pub mod ReadsMonotone
-pub mod Held
+pub mod EdgesBySlot
 pub mod Cycles
-pub mod HeldCycles
-pub mod HeldNests
+pub mod CyclesBySlot
+pub mod NestingRules
 pub mod Heights

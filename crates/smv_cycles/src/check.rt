@@ -9,11 +9,11 @@ ghost use Rattle.smv_meaning.specs.InstanceTable.{entries_at};
 ghost use Rattle.smv_meaning.specs.Valuation as valuation;
 ghost use Rattle.smv_meaning.specs.Entries.{entries_view};
 ghost use Rattle.smv_cycles.specs.Cycles.{cycles_fault};
-ghost use Rattle.smv_cycles.specs.HeldCycles as held;
+ghost use Rattle.smv_cycles.specs.CyclesBySlot as by_slot;
 
 use crate::edges::{graph_of, targets_of};
 use crate::heights::heights_of;
-use crate::nesting::nested_rows;
+use crate::nesting::check_nesting;
 use crate::spans::slot_span;
 use crate::texts::cycle_text;
 use graph::Search;
@@ -34,7 +34,7 @@ fn name_cycle(
     name: &str,
 ) -> Result<Option<usize>, NoMemory>
     requires has { slots.HasSlots table.now }
-    ensures { IfOk result (λ k. k ≡ held.name_cycle table.now search.now.graph.now row name.now) }
+    ensures { IfOk result (λ k. k ≡ by_slot.name_cycle table.now search.now.graph.now row name.now) }
 {
     match slot_of(table, row, name) {
         Some(k) => {
@@ -58,7 +58,7 @@ fn names_cycle(
 ) -> Result<Option<usize>, NoMemory>
     requires has { slots.HasSlots table.now }
     ensures { IfOk result (λ k. k
-        ≡ held.row_cycle table.now search.now.graph.now row (entries_view entries.now)) }
+        ≡ by_slot.row_cycle table.now search.now.graph.now row (entries_view entries.now)) }
 {
     for entry in entries {
         match name_cycle(alloc, table, search, row, entry.name.as_str())? {
@@ -78,7 +78,7 @@ fn row_cycle(
 ) -> Result<Option<usize>, NoMemory>
     requires has { slots.HasSlots table.now }
     ensures { IfOk result (λ k. k
-        ≡ held.row_cycle table.now search.now.graph.now row (entries_at table.now.rows row)) }
+        ≡ by_slot.row_cycle table.now search.now.graph.now row (entries_at table.now.rows row)) }
 {
     match at(table.rows.as_slice(), row).copied() {
         Some(found) => names_cycle(alloc, table, search, row, found.entries()),
@@ -94,7 +94,7 @@ fn first_cycle(
     order: &[usize],
 ) -> Result<Option<usize>, NoMemory>
     requires has { slots.HasSlots table.now }
-    ensures { IfOk result (λ k. k ≡ held.first_cycle table.now search.now.graph.now order.now) }
+    ensures { IfOk result (λ k. k ≡ by_slot.first_cycle table.now search.now.graph.now order.now) }
 {
     for row in order {
         match row_cycle(alloc, table, search, *row)? {
@@ -114,13 +114,13 @@ fn cycle_fault(
     k: usize,
 ) -> Result<Fault, NoMemory>
     requires linked { valuation.AreLinked table.now.rows }
-    ensures { IfOk result (λ f. f ≡ held.cycle_fault program.now table.now search.now.graph.now k) }
+    ensures { IfOk result (λ f. f ≡ by_slot.cycle_fault program.now table.now search.now.graph.now k) }
 {
     let texts = path_texts(alloc, table.rows.as_slice())?;
     let members = search.cycle_of(alloc, k)?;
     let cycle = cycle_text(alloc, table, texts.as_slice(), members.as_slice())?;
     Ok(Fault::CyclicDefine {
-        at: Some(slot_span(program, table, k)),
+        at: Some(slot_span(alloc, program, table, k)?),
         cycle,
     })
 }
@@ -134,32 +134,13 @@ fn check_cycles_of_names(
 ) -> Result<(), Fault>
     requires has { slots.HasSlots table.now }
     requires linked { valuation.AreLinked table.now.rows }
-    ensures { ReportsFirst (held.cyclic_fault program.now table.now search.now.graph.now order.now) result }
+    ensures { ReportsFirst (by_slot.cyclic_fault program.now table.now search.now.graph.now order.now) result }
 {
     match first_cycle(alloc, table, search, order)? {
         Some(k) => {
             let fault = cycle_fault(alloc, program, table, search, k)?;
             Err(fault)
         }
-        None => Ok(()),
-    }
-}
-
-fn check_nesting(
-    alloc: Global,
-    program: &Program,
-    table: &InstanceTable,
-    order: &[usize],
-    aliases: &[Option<usize>],
-    heights: &[Option<usize>],
-) -> Result<(), Fault>
-    requires has { slots.HasSlots table.now }
-    requires is_of { slots.AreAliases table.now aliases.now }
-    ensures { ReportsFirst (held.nesting_fault program.now table.now aliases.now heights.now
-        order.now) result }
-{
-    match nested_rows(alloc, program, table, aliases, heights, order)? {
-        Some(at) => Err(Fault::TooNested { at: Some(at) }),
         None => Ok(()),
     }
 }
@@ -173,10 +154,12 @@ fn check_graph(
     search: &Search,
     heights: &[Option<usize>],
 ) -> Result<(), Fault>
+    requires right { checking.IsTableOfProgram program.now table.now }
+    requires rows { checking.AreRows table.now order.now }
     requires has { slots.HasSlots table.now }
     requires is_of { slots.AreAliases table.now aliases.now }
     requires linked { valuation.AreLinked table.now.rows }
-    ensures { ReportsFirst (held.graph_fault program.now table.now aliases.now search.now.graph.now
+    ensures { ReportsFirst (by_slot.graph_fault program.now table.now aliases.now search.now.graph.now
         heights.now order.now) result }
 {
     check_cycles_of_names(alloc, program, table, order, search)?;
@@ -196,7 +179,7 @@ pub fn check_cycles(
     aliases: &[Option<usize>],
 ) -> Result<(), Fault>
     requires right { checking.IsTableOfProgram program.now table.now }
-    requires one { held.OneEach table.now }
+    requires one { by_slot.OneEach table.now }
     requires rows { checking.AreRows table.now order.now }
     requires order { map (checking.instance_at table.now) order.now ≡ instances program.now }
     requires aliases { slots.AreAliases table.now aliases.now }

@@ -4,8 +4,8 @@ ghost use Rattle.std.specs.Prelude.{◌≡◌, List, ℕ, IfOk, map};
 ghost use Rattle.std.specs.List.{flat_map};
 ghost use Rattle.std.specs.Option.{option_map, option_to_list};
 ghost use Rattle.smv_meaning.specs.Slots as slots;
-ghost use Rattle.smv_cycles.specs.Held as spec;
-ghost use Rattle.smv_cycles.specs.HeldCycles as cycles;
+ghost use Rattle.smv_cycles.specs.EdgesBySlot as spec;
+ghost use Rattle.smv_cycles.specs.CyclesBySlot as cycles;
 ghost use Rattle.smv_cycles.specs.Nodes as trees;
 
 use crate::nodes::{Node, nodes_of};

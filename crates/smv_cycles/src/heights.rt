@@ -3,7 +3,7 @@
 ghost use Rattle.std.specs.Prelude.{◌≡◌, ℕ, max, suc, ◌+◌, length, IfOk};
 ghost use Rattle.fixpoint.specs.Fixpoints.{entry, fixpoint};
 ghost use Rattle.smv_cycles.specs.Reads as spec;
-ghost use Rattle.smv_cycles.specs.Held as held;
+ghost use Rattle.smv_cycles.specs.EdgesBySlot as by_slot;
 
 use crate::edges::Edge;
 use fixpoint::{Step, fill};
@@ -36,7 +36,7 @@ fn joined(above: usize, height: usize) -> Result<usize, NoMemory>
 
 /// The depth of the tree below the root at a node, by the table so far.
 fn height_at(solution: &[Option<usize>], edge: Edge) -> Result<Option<usize>, NoMemory>
-    ensures { IfOk result (λ h. h ≡ spec.height_at (entry solution.now) (held.edge_view edge)) }
+    ensures { IfOk result (λ h. h ≡ spec.height_at (entry solution.now) (by_slot.edge_view edge)) }
 {
     match height_read(solution, edge.target) {
         Some(height) => Ok(Some(joined(edge.above, height)?)),
@@ -47,7 +47,7 @@ fn height_at(solution: &[Option<usize>], edge: Edge) -> Result<Option<usize>, No
 /// The height of a tree with these edges, by the table so far.
 pub fn tallest(solution: &[Option<usize>], edges: &[Edge]) -> Result<Option<usize>, NoMemory>
     ensures { IfOk result (λ h. h
-        ≡ spec.tallest (entry solution.now) 0 (held.edges_view edges.now)) }
+        ≡ spec.tallest (entry solution.now) 0 (by_slot.edges_view edges.now)) }
 {
     let mut most: usize = 0;
     for edge in edges {
@@ -68,7 +68,7 @@ struct Heights<'t> {
 impl<'t> Step<usize> for Heights<'t> {
     ghost use Rattle.smv_cycles.specs.Reads.{height_step};
     ghost use Rattle.smv_cycles.specs.ReadsMonotone.{height_monotone};
-    ghost use Rattle.smv_cycles.specs.Held.{edges_at};
+    ghost use Rattle.smv_cycles.specs.EdgesBySlot.{edges_at};
 
     ghost step = { λ me. height_step (edges_at me.graph.now) };
 
@@ -94,7 +94,7 @@ pub fn heights_of(
     order: &[usize],
 ) -> Result<List<Option<usize>>, NoMemory>
     ensures { IfOk result (λ solution. (k : ℕ) → entry solution k
-        ≡ spec.heights (held.edges_at graph.now) k) }
+        ≡ spec.heights (by_slot.edges_at graph.now) k) }
 {
     let solution = fill(alloc, &Heights { graph }, graph.len(), order)?;
     Ok(solution)

@@ -4,8 +4,8 @@
 mod check;
 mod edges;
 mod heights;
-mod nest;
 mod nesting;
+mod nesting_rule;
 mod nodes;
 mod spans;
 mod texts;

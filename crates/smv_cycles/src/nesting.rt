@@ -1,21 +1,23 @@
 //! Items whose nesting is too deep.
 
-ghost use Rattle.std.specs.Prelude.{◌≡◌, IfOk, map};
+ghost use Rattle.std.specs.Prelude.{◌≡◌, ◌<◌, IfOk, length};
 ghost use Rattle.std.specs.List.{list_any};
-ghost use Rattle.smv_meaning.specs.Sections.{IsSectionIndex};
+ghost use Rattle.smv_meaning.specs.Checking as checking;
+ghost use Rattle.smv_meaning.specs.Faults.{ReportsFirst};
+ghost use Rattle.smv_meaning.specs.ItemIndex.{IsItemIndex};
+ghost use Rattle.smv_meaning.specs.Items.{item_view};
 ghost use Rattle.smv_meaning.specs.Slots as slots;
 ghost use Rattle.smv_cycles.specs.Cycles as spec;
-ghost use Rattle.smv_cycles.specs.HeldCycles as held;
-ghost use Rattle.smv_cycles.specs.HeldNests as nests;
+ghost use Rattle.smv_cycles.specs.CyclesBySlot as by_slot;
+ghost use Rattle.smv_cycles.specs.NestingRules.{high_here};
 
 use crate::edges::edges_in;
 use crate::heights::tallest;
-use crate::nest::Nest;
-use crate::spans::sections_row;
-use smv_ast::{
-    Assignment, Declaration, Declared, Definition, Expr, NoMemory, Program, Section, Span,
-};
-use smv_meaning::sections::SectionsByName;
+use crate::nesting_rule::NestingRule;
+use smv_ast::{Declared, Expr, Fault, NoMemory, Program};
+use smv_meaning::item_index::ItemsByName;
+use smv_meaning::items::Item;
+use smv_meaning::rules::{ItemRule, check_items};
 use smv_meaning::table::InstanceTable;
 use sqlite_items::at;
 use std::alloc::Global;
@@ -29,24 +31,29 @@ fn is_high(height: Option<usize>) -> bool
     }
 }
 
-/// The span of an item, if it is nested too deep.
-fn item_span(nested: bool, at: Span) -> Option<Span>
-    ensures { result ≡ spec.item_span nested at }
+fn declares_instance(item: Item) -> bool
+    ensures { result ≡ spec.declares_instance (item_view item.entry) }
 {
-    if nested { Some(at) } else { None }
+    match item {
+        Item::Declaration(declaration) => match &declaration.what {
+            Declared::Plain(_) => false,
+            Declared::Instance { .. } => true,
+        },
+        _ => false,
+    }
 }
 
-impl<'t> Nest<'t> {
+impl<'t> NestingRule<'t> {
     /// Whether the height of an expression passes 1,000.
     fn high(&self, alloc: Global, e: &Expr) -> Result<bool, NoMemory>
-        ensures { IfOk result (λ b. b ≡ nests.high_nest self.now e.now) }
+        ensures { IfOk result (λ b. b ≡ high_here self.now e.now) }
     {
         let edges = edges_in(alloc, self.table, self.aliases, self.row, e)?;
         Ok(is_high(tallest(self.heights, edges.as_slice())?))
     }
 
     fn any_high(&self, alloc: Global, expressions: &[Expr]) -> Result<bool, NoMemory>
-        ensures { IfOk result (λ b. b ≡ list_any (nests.high_nest self.now) expressions.now) }
+        ensures { IfOk result (λ b. b ≡ list_any (high_here self.now) expressions.now) }
     {
         for e in expressions {
             if self.high(alloc, e)? {
@@ -56,106 +63,28 @@ impl<'t> Nest<'t> {
         Ok(false)
     }
 
-    fn single(&self, alloc: Global, e: &Expr, at: Span) -> Result<Option<Span>, NoMemory>
-        ensures { IfOk result (λ s. s ≡ nests.nested_item self.now (spec.single_item e.now at)) }
+    fn is_nested(&self, alloc: Global, item: Item) -> Result<bool, NoMemory>
+        ensures { IfOk result (λ b. b
+            ≡ spec.is_nested (high_here self.now) self.now.deep (item_view item.entry)) }
     {
-        Ok(item_span(self.high(alloc, e)?, at))
-    }
-
-    fn declaration(
-        &self,
-        alloc: Global,
-        declaration: &Declaration,
-    ) -> Result<Option<Span>, NoMemory>
-        ensures { IfOk result (λ s. s
-            ≡ nests.nested_item self.now (spec.declaration_item declaration.now)) }
-    {
-        match &declaration.what {
-            Declared::Plain(_) => Ok(None),
-            Declared::Instance { actuals, .. } => {
-                if self.deep {
-                    return Ok(Some(declaration.at));
-                }
-                Ok(item_span(self.any_high(alloc, actuals.as_slice())?, declaration.at))
-            }
+        if self.deep && declares_instance(item) {
+            return Ok(true);
         }
+        self.any_high(alloc, item.exprs())
     }
+}
 
-    fn declarations(
-        &self,
-        alloc: Global,
-        declarations: &[Declaration],
-    ) -> Result<Option<Span>, NoMemory>
-        ensures { IfOk result (λ s. s
-            ≡ nests.nested_items self.now (map spec.declaration_item declarations.now)) }
-    {
-        for declaration in declarations {
-            match self.declaration(alloc, declaration)? {
-                Some(at) => return Ok(Some(at)),
-                None => {}
-            }
-        }
-        Ok(None)
-    }
+impl<'t> ItemRule<Fault> for NestingRule<'t> {
+    ghost use Rattle.smv_cycles.specs.Cycles.{nested_item};
+    ghost use Rattle.smv_cycles.specs.NestingRules.{high_here};
 
-    fn assignments(
-        &self,
-        alloc: Global,
-        assignments: &[Assignment],
-    ) -> Result<Option<Span>, NoMemory>
-        ensures { IfOk result (λ s. s
-            ≡ nests.nested_items self.now (map spec.assignment_item assignments.now)) }
-    {
-        for assignment in assignments {
-            match self.single(alloc, &assignment.right, assignment.at)? {
-                Some(at) => return Ok(Some(at)),
-                None => {}
-            }
-        }
-        Ok(None)
-    }
+    ghost reports = { λ me. nested_item (high_here me) me.deep };
 
-    fn definitions(
-        &self,
-        alloc: Global,
-        definitions: &[Definition],
-    ) -> Result<Option<Span>, NoMemory>
-        ensures { IfOk result (λ s. s
-            ≡ nests.nested_items self.now (map spec.definition_item definitions.now)) }
-    {
-        for definition in definitions {
-            match self.single(alloc, &definition.right, definition.at)? {
-                Some(at) => return Ok(Some(at)),
-                None => {}
-            }
-        }
-        Ok(None)
-    }
-
-    fn section(&self, alloc: Global, section: &Section) -> Result<Option<Span>, NoMemory>
-        ensures { IfOk result (λ s. s ≡ nests.nested_items self.now (spec.nest_items section.now)) }
-    {
-        match section {
-            Section::Vars(declarations) => self.declarations(alloc, declarations.as_slice()),
-            Section::Assigns(assignments) => self.assignments(alloc, assignments.as_slice()),
-            Section::Defines(definitions) => self.definitions(alloc, definitions.as_slice()),
-            Section::Init(e, at) => self.single(alloc, e, *at),
-            Section::Invar(e, at) => self.single(alloc, e, *at),
-            Section::Trans(e, at) => self.single(alloc, e, *at),
-            Section::InvarSpec(e, at) => self.single(alloc, e, *at),
-        }
-    }
-
-    /// The first item of the sections that is nested too deep.
-    fn sections(&self, alloc: Global, sections: &[Section]) -> Result<Option<Span>, NoMemory>
-        ensures { IfOk result (λ s. s
-            ≡ spec.nested_in (nests.high_nest self.now) self.now.deep sections.now) }
-    {
-        for section in sections {
-            match self.section(alloc, section)? {
-                Some(at) => return Ok(Some(at)),
-                None => {}
-            }
+    fn judge(&self, alloc: Global, item: Item) -> Result<Option<Fault>, NoMemory> {
+        if self.is_nested(alloc, item)? {
+            return Ok(Some(Fault::TooNested {
+                at: Some(item.at()),
+            }));
         }
         Ok(None)
     }
@@ -163,7 +92,7 @@ impl<'t> Nest<'t> {
 
 /// Whether an instance declared by the instance of this row has a path of more than 1,000 names.
 fn deep_row(table: &InstanceTable, row: usize) -> Result<bool, NoMemory>
-    ensures { IfOk result (λ b. b ≡ held.deep_row table.now row) }
+    ensures { IfOk result (λ b. b ≡ by_slot.deep_row table.now row) }
 {
     match at(table.rows.as_slice(), row).copied() {
         Some(found) => match found.depth.checked_add(1) {
@@ -175,53 +104,54 @@ fn deep_row(table: &InstanceTable, row: usize) -> Result<bool, NoMemory>
     }
 }
 
-/// The first item of an instance that is nested too deep.
-fn nested_row(
+/// Reports the first item of an instance that is nested too deep.
+fn check_row(
     alloc: Global,
     program: &Program,
-    sections: &SectionsByName,
+    index: &ItemsByName,
     table: &InstanceTable,
     aliases: &[Option<usize>],
     heights: &[Option<usize>],
     row: usize,
-) -> Result<Option<Span>, NoMemory>
-    requires sections { IsSectionIndex program.now sections.now }
+) -> Result<(), Fault>
+    requires right { checking.IsTableOfProgram program.now table.now }
+    requires index { IsItemIndex program.now index.now }
+    requires row { row < length table.now.rows }
     requires has { slots.HasSlots table.now }
     requires is_of { slots.AreAliases table.now aliases.now }
-    ensures { IfOk result (λ s. s
-        ≡ held.nested_row program.now table.now aliases.now heights.now row) }
+    ensures { ReportsFirst
+        (by_slot.nested_row program.now table.now aliases.now heights.now row) result }
 {
     let deep = deep_row(table, row)?;
-    let nest = Nest {
+    let rule = NestingRule {
         table,
         aliases,
         heights,
         row,
         deep,
     };
-    nest.sections(alloc, sections_row(program, sections, table, row))
+    check_items(alloc, &rule, index.of_row(program, table, row))
 }
 
-/// The first item that is nested too deep, in the order of these instances.
-pub fn nested_rows(
+/// Reports the first item that is nested too deep, in the order of these instances.
+pub fn check_nesting(
     alloc: Global,
     program: &Program,
     table: &InstanceTable,
+    order: &[usize],
     aliases: &[Option<usize>],
     heights: &[Option<usize>],
-    order: &[usize],
-) -> Result<Option<Span>, NoMemory>
+) -> Result<(), Fault>
+    requires right { checking.IsTableOfProgram program.now table.now }
+    requires rows { checking.AreRows table.now order.now }
     requires has { slots.HasSlots table.now }
     requires is_of { slots.AreAliases table.now aliases.now }
-    ensures { IfOk result (λ s. s
-        ≡ held.nested_rows program.now table.now aliases.now heights.now order.now) }
+    ensures { ReportsFirst
+        (by_slot.nesting_fault program.now table.now aliases.now heights.now order.now) result }
 {
-    let sections = SectionsByName::of_program(alloc, program)?;
+    let index = ItemsByName::of_program(alloc, program)?;
     for row in order {
-        match nested_row(alloc, program, &sections, table, aliases, heights, *row)? {
-            Some(at) => return Ok(Some(at)),
-            None => {}
-        }
+        check_row(alloc, program, &index, table, aliases, heights, *row)?;
     }
-    Ok(None)
+    Ok(())
 }

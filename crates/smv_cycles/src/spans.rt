@@ -1,16 +1,17 @@
-//! The spans of declarations, and modules by name.
+//! The spans of declarations.
 
-ghost use Rattle.std.specs.Prelude.{◌≡◌, map, find, slice_get};
-ghost use Rattle.std.specs.Option.{option_copied};
-ghost use Rattle.std.specs.Str.{bytes_eq};
-ghost use Rattle.smv_meaning.specs.Sections.{IsSectionIndex};
+ghost use Rattle.std.specs.Prelude.{◌≡◌, IfOk, slice_get};
+ghost use Rattle.smv_meaning.specs.Items.{item_view, items_view};
+ghost use Rattle.smv_meaning.specs.Runs.{first_fault};
 ghost use Rattle.smv_cycles.specs.Cycles as spec;
-ghost use Rattle.smv_cycles.specs.HeldCycles as held;
+ghost use Rattle.smv_cycles.specs.CyclesBySlot as by_slot;
 
-use smv_ast::{Declaration, Definition, Module, Program, Section, Span, Text};
-use smv_meaning::sections::SectionsByName;
-use smv_meaning::table::{InstanceTable, Link};
+use smv_ast::{Module, NoMemory, Program, Span, Text};
+use smv_meaning::items::{Item, items_of};
+use smv_meaning::module_numbers::{module_named, numbers_of};
+use smv_meaning::table::{InstanceTable, called_of};
 use sqlite_items::at;
+use std::alloc::Global;
 
 fn is_among(names: &[Text], name: &str) -> bool
     ensures { result ≡ spec.is_formal names.now name.now }
@@ -23,43 +24,27 @@ fn is_among(names: &[Text], name: &str) -> bool
     false
 }
 
-fn declared_in(declarations: &[Declaration], name: &str) -> Option<Span>
-    ensures { result ≡ spec.span_in name.now (map spec.declaration_span declarations.now) }
+/// The span of the item, if it declares or defines the name.
+fn span_if_named(item: Item, name: &str) -> Option<Span>
+    ensures { result ≡ spec.span_if_named name.now (item_view item.entry) }
 {
-    for declaration in declarations {
-        if declaration.name.as_str() == name {
-            return Some(declaration.at);
-        }
-    }
-    None
-}
-
-fn defined_in(definitions: &[Definition], name: &str) -> Option<Span>
-    ensures { result ≡ spec.span_in name.now (map spec.definition_span definitions.now) }
-{
-    for definition in definitions {
-        if definition.name.as_str() == name {
-            return Some(definition.at);
-        }
-    }
-    None
-}
-
-fn section_span(section: &Section, name: &str) -> Option<Span>
-    ensures { result ≡ spec.span_in name.now (spec.section_spans section.now) }
-{
-    match section {
-        Section::Vars(declarations) => declared_in(declarations.as_slice(), name),
-        Section::Defines(definitions) => defined_in(definitions.as_slice(), name),
-        _ => None,
+    let (declared, at) = match item {
+        Item::Declaration(declaration) => (&declaration.name, declaration.at),
+        Item::Definition(definition) => (&definition.name, definition.at),
+        _ => return None,
+    };
+    if declared.as_str() == name {
+        Some(at)
+    } else {
+        None
     }
 }
 
-fn sections_span(sections: &[Section], name: &str) -> Option<Span>
-    ensures { result ≡ spec.sections_span sections.now name.now }
+fn span_among(items: &[Item], name: &str) -> Option<Span>
+    ensures { result ≡ first_fault (spec.span_if_named name.now) (items_view items.now) }
 {
-    for section in sections {
-        match section_span(section, name) {
+    for item in items {
+        match span_if_named(*item, name) {
             Some(at) => return Some(at),
             None => {}
         }
@@ -68,86 +53,59 @@ fn sections_span(sections: &[Section], name: &str) -> Option<Span>
 }
 
 /// The span of the declaration of a name in a module. A formal has the span of the module.
-pub fn declared_at(owner: &Module, name: &str) -> Span
-    ensures { result ≡ spec.declared_at owner.now name.now }
+fn declared_at(alloc: Global, owner: &Module, name: &str) -> Result<Span, NoMemory>
+    ensures { IfOk result (λ at. at ≡ spec.declared_at owner.now name.now) }
 {
     if is_among(owner.formals.as_slice(), name) {
-        return owner.at;
+        return Ok(owner.at);
     }
-    match sections_span(owner.sections.as_slice(), name) {
-        Some(at) => at,
-        None => owner.at,
-    }
-}
-
-/// The first module of a name, if there is one.
-fn module_named<'p>(program: &'p Program, name: &str) -> Option<&'p Module>
-    ensures { option_copied result ≡ find (λ m. bytes_eq m.name name.now) program.now.modules }
-{
-    for owner in program.modules.as_slice() {
-        if owner.name.as_str() == name {
-            return Some(owner);
-        }
-    }
-    None
-}
-
-/// The link of the row with this number, if there is one.
-fn link_at<'s, 'a>(table: &InstanceTable<'s, 'a>, row: usize) -> Option<Link<'a>>
-    ensures { result ≡ held.link_at table.now row }
-{
-    match at(table.rows.as_slice(), row).copied() {
-        Some(found) => found.link,
-        None => None,
-    }
-}
-
-/// The name of the module of an instance with this link.
-fn called_of<'a>(link: Option<Link<'a>>) -> &'a str
-    ensures { result.now ≡ held.called_of link.entry }
-{
-    match link {
-        Some(link) => link.called.as_str(),
-        None => "main",
+    let items = items_of(alloc, owner)?;
+    match span_among(items.as_slice(), name) {
+        Some(at) => Ok(at),
+        None => Ok(owner.at),
     }
 }
 
 /// The name of the module of a row.
 fn called_row<'s, 'a>(table: &InstanceTable<'s, 'a>, row: usize) -> &'a str
-    ensures { result.now ≡ held.called_row table.now row }
+    ensures { result.now ≡ by_slot.called_row table.now row }
 {
-    called_of(link_at(table, row))
-}
-
-/// The sections of the module of a row. `program` is only there for the contract.
-pub fn sections_row<'p>(
-    program: &Program,
-    sections: &SectionsByName<'p>,
-    table: &InstanceTable,
-    row: usize,
-) -> &'p [Section]
-    requires { IsSectionIndex program.now sections.now }
-    ensures { result.now ≡ (held.module_row program.now table.now row).sections }
-{
-    sections.of_link(link_at(table, row))
+    match at(table.rows.as_slice(), row).copied() {
+        Some(found) => called_of(found.link),
+        None => "main",
+    }
 }
 
 /// The span of the declaration of a name in the module of a row.
-fn declared_row(program: &Program, table: &InstanceTable, row: usize, name: &str) -> Span
-    ensures { result ≡ spec.declared_at (held.module_row program.now table.now row) name.now }
+fn declared_row(
+    alloc: Global,
+    program: &Program,
+    table: &InstanceTable,
+    row: usize,
+    name: &str,
+) -> Result<Span, NoMemory>
+    ensures { IfOk result (λ at. at
+        ≡ spec.declared_at (by_slot.module_row program.now table.now row) name.now) }
 {
-    match module_named(program, called_row(table, row)) {
-        Some(owner) => declared_at(owner, name),
-        None => Span { file: 0, at: 0 },
+    let numbers = numbers_of(alloc, program)?;
+    match module_named(program, &numbers, called_row(table, row)) {
+        Some(owner) => declared_at(alloc, owner, name),
+        None => Ok(Span { file: 0, at: 0 }),
     }
 }
 
 /// The span of the declaration of a slot's name.
-pub fn slot_span(program: &Program, table: &InstanceTable, k: usize) -> Span
-    ensures { result ≡ held.slot_span program.now table.now (slice_get table.now.slots k) }
+pub fn slot_span(
+    alloc: Global,
+    program: &Program,
+    table: &InstanceTable,
+    k: usize,
+) -> Result<Span, NoMemory>
+    ensures { IfOk result (λ at. at
+        ≡ by_slot.slot_span program.now table.now (slice_get table.now.slots k)) }
 {
     match at(table.slots.as_slice(), k).copied() {
-        Some(slot) => declared_row(program, table, slot.row, slot.name.as_str()),
-        None => Span { file: 0, at: 0 },
+        Some(slot) => declared_row(alloc, program, table, slot.row, slot.name.as_str()),
+        None => Ok(Span { file: 0, at: 0 }),
     }
 }

@@ -3,36 +3,15 @@
 ghost use Rattle.std.specs.Prelude.{◌≡◌, IfOk, OnOk, codes, slice_get, List, ℕ};
 ghost use Rattle.smv_ast.specs.PrintedExpr.{joined};
 ghost use Rattle.smv_meaning.specs.Valuation.{SpellsNames};
-ghost use Rattle.smv_cycles.specs.HeldCycles as spec;
+ghost use Rattle.smv_cycles.specs.CyclesBySlot as spec;
 
 use smv_ast::{List, NoMemory, Text, print_joined};
-use smv_meaning::instance_texts::text_below;
+use smv_meaning::instance_texts::name_text;
 use smv_meaning::table::InstanceTable;
 use sqlite_items::at;
 use std::alloc::Global;
 
-/// The path of a name of a row; empty where there is no row.
-fn row_name_text(
-    alloc: Global,
-    table: &InstanceTable,
-    texts: &[Text],
-    row: usize,
-    name: &str,
-) -> Result<Text, NoMemory>
-    requires { SpellsNames table.now.rows texts.now }
-    ensures { IfOk result (λ t. t
-        ≡ spec.row_name_text table.now row name.now (slice_get table.now.rows row)) }
-{
-    let Some(found) = at(table.rows.as_slice(), row).copied() else {
-        return Text::from_str(alloc, "");
-    };
-    match at(texts, row) {
-        Some(text) => text_below(alloc, found.link, text.as_str(), name),
-        None => Text::from_str(alloc, ""),
-    }
-}
-
-/// The path of the name of a slot.
+/// The path of the name of a slot; empty where there is no such slot.
 fn slot_text(
     alloc: Global,
     table: &InstanceTable,
@@ -42,8 +21,12 @@ fn slot_text(
     requires { SpellsNames table.now.rows texts.now }
     ensures { IfOk result (λ t. t ≡ spec.slot_text table.now (slice_get table.now.slots k)) }
 {
-    match at(table.slots.as_slice(), k).copied() {
-        Some(slot) => row_name_text(alloc, table, texts, slot.row, slot.name.as_str()),
+    let found = match at(table.slots.as_slice(), k).copied() {
+        Some(slot) => name_text(alloc, table, texts, slot.row, slot.name.as_str())?,
+        None => None,
+    };
+    match found {
+        Some(text) => Ok(text),
         None => Text::from_str(alloc, ""),
     }
 }

@@ -1,7 +1,6 @@
 -- The definitions, evaluated on small examples.
-use Rattle.std.proofs.Common.{◌≡◌, ℕ, Bool, true, false, List, [], ◌∷◌, Option, Some, None, refl}
+use Rattle.std.proofs.Common.{◌≡◌, ℕ, true, false, [], ◌∷◌, Some, refl}
 use Rattle.std.specs.Prelude.{ℤ, pos, negsuc}
-use Rattle.smv_ast.specs.declared.syntax.Op.{Op}
 use Rattle.smv_ast.specs.declared.syntax.Op.TheVariants as op
 use Rattle.smv_ast.specs.declared.syntax.SmvType.TheVariants as type
 use Rattle.smv_kinds.specs.declared.intervals.Interval.{Interval}

@@ -1,6 +1,7 @@
 -- The subexpressions of an expression that keeps the rules, with its choices where they may be,
 -- keep the rules too.
 use Rattle.std.proofs.Common.{◌≡◌, ℕ, zero, suc, inl, inr, Bool, true, ◌&&◌, List, [], ◌∷◌, map, subst}
+use Rattle.std.proofs.lemmas.Bool.{and_parts}
 use Rattle.std.specs.List.{flat_map, list_all, AllByRecursion}
 use Rattle.smv_ast.specs.declared.syntax.Expr.{Expr, Expr-F, out-Expr, fold_out-Expr}
 use Rattle.smv_ast.specs.declared.syntax.Choice.{Choice, Choice-F, out-Choice, fold_out-Choice}
@@ -10,7 +11,6 @@ use Rattle.smv_kinds.specs.Facts.{ChoiceFacts, BranchFacts, SortEnvironment, pic
 use Rattle.smv_kinds.specs.Parts.{choice_layer_parts, choice_parts, branch_parts, expr_layer_parts, direct_parts, parts_below}
 use Rattle.smv_kinds.specs.Monotone.{choice_facts, expr_facts}
 use Rattle.smv_kinds.specs.Soundness.{IsKept, Shape, BranchShape, choice_shape_layer, expr_shape_layer, branch_shape_layer, shape_of, choice_shape, branch_shape}
-use Rattle.smv_kinds.proofs.IntervalLemmas.{both_true}
 use Rattle.smv_kinds.proofs.KeptLemmas.{AllKept, first_kept, parts_kept, case_kept, negation_kept, not_kept, next_kept, binary_kept, within_kept}
 use Rattle.smv_kinds.proofs.SoundLemmas.{choice_shapes, expr_shapes, sound}
 use Rattle.smv_meaning.proofs.MemberLemmas.{In, from_flat}
@@ -30,7 +30,7 @@ module _ (on : SortEnvironment) where
   parts_in flag up [] k s = tt
   parts_in flag up (e ∷ parts) k s =
       let a = first_kept (facts_of on e) (map (facts_of on) parts) k in
-      let b = both_true (flag (shape_of e)) (list_all flag (map shape_of parts)) s in
+      let b = and_parts (flag (shape_of e)) (list_all flag (map shape_of parts)) s in
       (up e a.0 b.0, parts_in flag up parts a.1 b.1)
 
   free_layer : (d : Choice-F Choice Expr Branch) → IsKept (pick_facts (choice_layer (choice_facts on d))) → (choice_shape_layer (choice_shapes d)).free ≡ true → AllByRecursion Kept (choice_layer_parts d)
@@ -72,8 +72,8 @@ module _ (on : SortEnvironment) where
   branches_kept (b ∷ branches) c v s =
       let x = first_kept (branch_facts_of on b).cond (conds branches) c in
       let y = first_kept (branch_facts_of on b).value (values branches) v in
-      let z = both_true ((branch_shape b).cond.plain && (branch_shape b).value.free) (list_all (λ s. s.cond.plain && s.value.free) (map branch_shape branches)) s in
-      let w = both_true (branch_shape b).cond.plain (branch_shape b).value.free z.0 in
+      let z = and_parts ((branch_shape b).cond.plain && (branch_shape b).value.free) (list_all (λ s. s.cond.plain && s.value.free) (map branch_shape branches)) s in
+      let w = and_parts (branch_shape b).cond.plain (branch_shape b).value.free z.0 in
       let cond = subst (λ (g : BranchFacts). IsKept g.cond) (branch_facts_are b) x.0 in
       let value = subst (λ (g : BranchFacts). IsKept g.value) (branch_facts_are b) y.0 in
       let plain = subst (λ (s : BranchShape). s.cond.plain ≡ true) (shapes_are b) w.0 in
@@ -90,11 +90,11 @@ module _ (on : SortEnvironment) where
   layer_kept (Expr-F.Neg a) k s = (plain_kept a (negation_kept (facts_of on a) k).0 s, tt)
   layer_kept (Expr-F.Not a) k s = (plain_kept a (not_kept (facts_of on a) k).0 s, tt)
   layer_kept (Expr-F.Binary op a b) k s =
-      let p = both_true (shape_of a).plain (shape_of b).plain s in
+      let p = and_parts (shape_of a).plain (shape_of b).plain s in
       let r = binary_kept op (facts_of on a) (facts_of on b) k in
       (plain_kept a r.left p.0, (plain_kept b r.right p.1, tt))
   layer_kept (Expr-F.Within a c) k s =
-      let p = both_true (shape_of a).plain (choice_shape c).plain s in
+      let p = and_parts (shape_of a).plain (choice_shape c).plain s in
       let r = within_kept (facts_of on a) (choice_facts_of on c) k in
       (plain_kept a r.0 p.0, plain_choice c r.1 p.1)
   layer_kept (Expr-F.Cases branches) k s =

@@ -1,40 +1,24 @@
 -- Sorts by number are those by instance, over a correct instance table.
-use Rattle.std.proofs.Common.{◌≡◌, ℕ, zero, suc, ◌<◌, List, [], ◌∷◌, length, Option, Some, None, refl, sym, ap, ◌∙◌, subst}
+use Rattle.std.proofs.Common.{◌≡◌, ℕ, zero, suc, ◌<◌, List, length, Option, Some, None, refl, sym, ap, ◌∙◌}
 use Rattle.std.specs.Option.{option_map, is_some}
 use mathlib.Core.Path.{fun_ext}
 use Rattle.smv_ast.specs.declared.syntax.Expr.{Expr}
 use Rattle.smv_ast.specs.declared.program.Program.{Program}
 use Rattle.smv_meaning.specs.declared.table.InstanceTable.{InstanceTable}
-use Rattle.std.specs.Prelude.{slice_get}
 use Rattle.smv_meaning.specs.Value.{Name, and_then}
 use Rattle.fixpoint.specs.Fixpoints.{known, most, entry}
 use Rattle.smv_meaning.specs.Paths.{QualifiedName, Binding, Aliases, IsVariable, IsInstance, IsDefine, IsFormal, IsNothing, aliased, aliases, resolve}
 use Rattle.smv_meaning.specs.Instances.{Entry, Instance, binding_at, entries, module_at}
 use Rattle.smv_meaning.specs.Entries.{entity_among}
-use Rattle.smv_meaning.specs.InstanceTable.{entries_at, nth_instance, row_instances, renumbered, binding_view, InRange, IsTableOf}
+use Rattle.smv_meaning.specs.InstanceTable.{entries_at, nth_instance, row_instances, renumbered, InRange, IsTableOf}
 use Rattle.smv_meaning.specs.Slots.{slot_of, binding_in, by_slot, AreAliases, resolve_slot}
 use Rattle.smv_meaning.proofs.InstanceTableLemmas.{names_at}
 use Rattle.smv_meaning.proofs.NumberLemmas.{SameInstance, SameName, qualified_at, same_binding, stood_same, aliases_same, resolve_same}
+use Rattle.smv_meaning.proofs.BindingLemmas.{resolve_slot_is}
 use Rattle.smv_kinds.specs.declared.sorts.Sort.{Sort}
 use Rattle.smv_kinds.specs.Sorts.{defined_sort}
 use Rattle.smv_kinds.specs.Facts.{SortEnvironment, facts_of}
 use Rattle.smv_kinds.specs.SortsOfNames.{Sorts, variable_sort, symbol_sort, sort_at, sorting_by, sort_by, sort_of, sort_step, sorts_in, target_sort, target_in, variable_at, sorting_in, row_variable, row_sorting, AreSorts}
-
-pub then_some : {A B : Type 0} (o : Option A) (f : A → Option B) (b : B) → and_then o f ≡ Some b → (a : A) × (o ≡ Some a) × (f a ≡ Some b)
-then_some None f b e = cc
-then_some (Some a) f b e = (a, refl, e)
-
--- a path resolves to a name that has a slot
-slot_found : (table : InstanceTable) (path : List Name) (row : ℕ) (qualified : QualifiedName ℕ) → resolve (binding_in table) row path ≡ Some qualified → (k : ℕ) × (slot_of table qualified ≡ Some k)
-slot_found table [] row qualified e = cc
-slot_found table (name ∷ []) row qualified e =
-    let m = then_some (binding_in table (qualified_at row name)) (λ m. Some (qualified_at row name)) qualified e in
-    let k = then_some (slot_of table (qualified_at row name)) (λ k. and_then (slice_get table.slots k) (λ slot. Some (binding_view slot.binding))) m.0 m.1 in
-    let same : qualified_at row name ≡ qualified = (let f : Some (qualified_at row name) ≡ Some qualified = m.2 in cc) in
-    (k.0, subst (λ (x : QualifiedName ℕ). slot_of table x ≡ Some k.0) same k.1)
-slot_found table (name ∷ next ∷ more) row qualified e =
-    let p = then_some (aliases (binding_in table) (qualified_at row name)) (λ p. resolve (binding_in table) p (next ∷ more)) qualified e in
-    slot_found table (next ∷ more) p.0 qualified p.2
 
 -- a path that resolves to no slot resolves to no declaration
 pub resolve_none : (table : InstanceTable) (row : ℕ) (path : List Name) → resolve_slot table row path ≡ None → resolve (binding_in table) row path ≡ None
@@ -42,7 +26,7 @@ resolve_none table row path h = at (resolve (binding_in table) row path) refl h
   where
     at : (o : Option (QualifiedName ℕ)) → resolve (binding_in table) row path ≡ o → and_then o (slot_of table) ≡ None → resolve (binding_in table) row path ≡ None
     at None e g = e
-    at (Some qualified) e g = let k = slot_found table path row qualified e in let n : Some k.0 ≡ None = sym k.1 ∙ g in cc
+    at (Some qualified) e g = let k = resolve_slot_is table path row qualified e in let n : Some k.0 ≡ None = sym k.1 ∙ g in cc
 
 module _ (program : Program) (table : InstanceTable) (right : IsTableOf program table.rows table.firsts table.slots) where
   abbrev instance_at : ℕ → Instance

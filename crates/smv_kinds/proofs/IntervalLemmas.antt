@@ -1,14 +1,10 @@
 -- Saturated ends, and ends within the limit of magnitude.
-use Rattle.std.proofs.Common.{◌≡◌, Bool, true, false, ◌&&◌, refl, ap, ◌∙◌, arith}
+use Rattle.std.proofs.Common.{◌≡◌, true, refl, ap, ◌∙◌, arith}
+use Rattle.std.proofs.lemmas.Bool.{and_parts}
 use Rattle.std.specs.Prelude.{ℤ, pos, negsuc, neg_ℤ, int_le, ◌≤ℤ◌}
-use Rattle.std.specs.Int.{int_min, int_max, saturate_signed, w64}
+use Rattle.std.specs.Int.{saturate_signed, w64}
 use Rattle.std.proofs.lemmas.Int.{ints, clamps}
-use Rattle.smv_kinds.specs.declared.intervals.Interval.{Interval}
 use Rattle.smv_kinds.specs.Intervals.{limit, is_within, saturated, between}
-
-pub both_true : (p q : Bool) → p && q ≡ true → (p ≡ true) × (q ≡ true)
-both_true true q e = (refl, e)
-both_true false q e = cc
 
 pub le_then : (a b c : ℤ) → a ≤ℤ b → b ≤ℤ c → a ≤ℤ c
 le_then a b c h k = omega (arith, ints)
@@ -26,7 +22,7 @@ pub record IsWithin (n : ℤ) : Type 0 where
 pub within_of : (n : ℤ) → is_within n ≡ true → IsWithin n
 unfolding is_within
 within_of n h =
-    let b = both_true (int_le (neg_ℤ limit) n) (int_le n limit) h in
+    let b = and_parts (int_le (neg_ℤ limit) n) (int_le n limit) h in
     let l : int_le (neg_ℤ limit) n ≡ true = b.0 in
     let u : int_le n limit ≡ true = b.1 in
     record { above = omega (arith, ints, l); below = omega (arith, ints, u) }

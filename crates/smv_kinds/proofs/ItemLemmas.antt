@@ -1,18 +1,18 @@
 -- Where no rule is broken, the expressions of each item keep the rules, and so do those of each
 -- name of an instance.
-use Rattle.std.proofs.Common.{◌≡◌, ℕ, suc, ◌⊎◌, inl, inr, Bool, true, false, ◌&&◌, cond, List, [], ◌∷◌, Option, Some, None, refl, sym, ap, ◌∙◌, subst}
+use Rattle.std.proofs.Common.{◌≡◌, ℕ, suc, ◌⊎◌, inl, inr, Bool, true, false, cond, List, [], ◌∷◌, Some, None, refl, sym, ap, ◌∙◌, subst}
+use Rattle.std.proofs.lemmas.Bool.{and_parts}
 use Rattle.std.specs.List.{flat_map, list_all}
 use Rattle.smv_ast.specs.declared.syntax.Expr.{Expr}
-use Rattle.smv_ast.specs.declared.program.Declared.{Declared}
 use Rattle.smv_ast.specs.declared.program.Declared.TheVariants.{Plain, Instance as Submodule}
 use Rattle.smv_ast.specs.declared.program.Program.{Program}
 use Rattle.smv_ast.specs.declared.fault.Fault.{Fault}
 use Rattle.smv_meaning.specs.Value.{Name}
-use Rattle.smv_meaning.specs.Instances.{Entity, Variable, Inner, Defined, Formal, Entry, Instance, formals_from, entries, module_at, entity_at, instances}
+use Rattle.smv_meaning.specs.Instances.{Entity, Variable, Inner, Defined, Formal, Entry, Instance, formals_from, item_entries, entries, module_at, entity_at, instances}
 use Rattle.smv_meaning.specs.Items.{Item, Declares, Assigns, Defines, Constrains, at_of, declared_exprs}
 use Rattle.smv_meaning.specs.ItemIndex.{items_at}
-use Rattle.smv_meaning.specs.Runs.{or_else, first_fault}
-use Rattle.smv_meaning.proofs.ItemLemmas.{item_entries, entries_of_items, item_of_entry}
+use Rattle.smv_meaning.specs.Runs.{or_else}
+use Rattle.smv_meaning.proofs.ItemLemmas.{item_of_entry}
 use Rattle.smv_meaning.proofs.MemberLemmas.{In, in_either, declares}
 use Rattle.smv_kinds.specs.declared.pass.Pass.{Pass}
 use Rattle.smv_kinds.specs.declared.pass.Pass.TheVariants as pass
@@ -20,31 +20,18 @@ use Rattle.smv_kinds.specs.SortsOfNames.{facts_in, sorting_in, is_instance}
 use Rattle.smv_kinds.specs.ItemRules.{fault_of, actual_keeps}
 use Rattle.smv_kinds.specs.Rules.{keeps_in, item_fault, instance_fault, pass_fault, kinds_fault}
 use Rattle.smv_kinds.specs.Soundness.{IsKept, shape_of, is_shaped, AreShaped}
-use Rattle.smv_kinds.proofs.IntervalLemmas.{both_true}
+use Rattle.smv_meaning.proofs.FirstFault.{first_none, neither_found}
 use Rattle.smv_kinds.proofs.PartLemmas.{either_true}
 use Rattle.smv_kinds.proofs.InnerLemmas.{Kept}
-
-first_none : {A B : Type 0} (f : A → Option B) (xs : List A) (x : A) → first_fault f xs ≡ None → In x xs → f x ≡ None
-first_none f [] x e i = absurd i
-first_none {B = B} f (y ∷ ys) x e i = at (f y) refl e i (first_none f ys x)
-  where
-    at : (o : Option B) → f y ≡ o → or_else o (first_fault f ys) ≡ None → In x (y ∷ ys) → (first_fault f ys ≡ None → In x ys → f x ≡ None) → f x ≡ None
-    at None g e (inl j) h = ap f (sym j) ∙ g
-    at None g e (inr j) h = h e j
-    at (Some b) g e j h = cc
 
 not_broken : (b : Bool) (f : Fault) → cond b None (Some f) ≡ None → b ≡ true
 not_broken true f e = refl
 not_broken false f e = cc
 
-neither : {B : Type 0} (o q : Option B) → or_else o q ≡ None → (o ≡ None) × (q ≡ None)
-neither None q e = (refl, e)
-neither (Some b) q e = cc
-
 all_true : {A : Type 0} (f : A → Bool) (xs : List A) (x : A) → list_all f xs ≡ true → In x xs → f x ≡ true
 all_true f [] x h i = absurd i
-all_true f (y ∷ ys) x h (inl e) = ap f (sym e) ∙ (both_true (f y) (list_all f ys) h).0
-all_true f (y ∷ ys) x h (inr i) = all_true f ys x (both_true (f y) (list_all f ys) h).1 i
+all_true f (y ∷ ys) x h (inl e) = ap f (sym e) ∙ (and_parts (f y) (list_all f ys) h).0
+all_true f (y ∷ ys) x h (inr i) = all_true f ys x (and_parts (f y) (list_all f ys) h).1 i
 
 module _ (program : Program) where
   -- an expression that keeps the rules in an instance, with no choice but after `in`
@@ -84,15 +71,15 @@ module _ (program : Program) where
   item_kept instance (Declares name (Plain t) at) keeps shape = λ e i. absurd i
   item_kept instance (Declares name (Submodule called actuals) at) keeps shape = λ e i. actual_kept instance actuals e i keeps shape
   item_kept instance (Assigns left name right at) keeps shape = record {
-    kept = record { kinds = (both_true _ _ (keeps pass.Kinds)).0; small = (both_true _ _ (keeps pass.Magnitudes)).0; mods = (both_true _ _ (keeps pass.Mods)).0 };
+    kept = record { kinds = (and_parts _ _ (keeps pass.Kinds)).0; small = (and_parts _ _ (keeps pass.Magnitudes)).0; mods = (and_parts _ _ (keeps pass.Mods)).0 };
     free = shape;
   }
-  item_kept instance (Defines name right at) keeps shape = record { kept = record { kinds = keeps pass.Kinds; small = keeps pass.Magnitudes; mods = keeps pass.Mods }; plain = (both_true _ _ shape).0 }
+  item_kept instance (Defines name right at) keeps shape = record { kept = record { kinds = keeps pass.Kinds; small = keeps pass.Magnitudes; mods = keeps pass.Mods }; plain = (and_parts _ _ shape).0 }
   item_kept instance (Constrains r e at) keeps shape =
-      let k = both_true (facts_in program instance e).kinds (facts_in program instance e).fits (keeps pass.Kinds) in (
+      let k = and_parts (facts_in program instance e).kinds (facts_in program instance e).fits (keeps pass.Kinds) in (
         record {
-          kept = record { kinds = k.0; small = (both_true _ _ (keeps pass.Magnitudes)).0; mods = (both_true _ _ (keeps pass.Mods)).0 };
-          plain = (both_true _ _ shape).0;
+          kept = record { kinds = k.0; small = (and_parts _ _ (keeps pass.Magnitudes)).0; mods = (and_parts _ _ (keeps pass.Mods)).0 };
+          plain = (and_parts _ _ shape).0;
         },
         k.1,
       )
@@ -116,12 +103,12 @@ module _ (program : Program) where
 
   module _ (none : kinds_fault program ≡ None) (shaped : AreShaped program) where
     later : or_else (pass_fault program pass.Magnitudes) (pass_fault program pass.Mods) ≡ None
-    later = (neither (pass_fault program pass.Kinds) (or_else (pass_fault program pass.Magnitudes) (pass_fault program pass.Mods)) none).1
+    later = (neither_found (pass_fault program pass.Kinds) (or_else (pass_fault program pass.Magnitudes) (pass_fault program pass.Mods)) none).1
 
     pass_none : (p : Pass) → pass_fault program p ≡ None
-    pass_none pass.Kinds = (neither (pass_fault program pass.Kinds) (or_else (pass_fault program pass.Magnitudes) (pass_fault program pass.Mods)) none).0
-    pass_none pass.Magnitudes = (neither (pass_fault program pass.Magnitudes) (pass_fault program pass.Mods) later).0
-    pass_none pass.Mods = (neither (pass_fault program pass.Magnitudes) (pass_fault program pass.Mods) later).1
+    pass_none pass.Kinds = (neither_found (pass_fault program pass.Kinds) (or_else (pass_fault program pass.Magnitudes) (pass_fault program pass.Mods)) none).0
+    pass_none pass.Magnitudes = (neither_found (pass_fault program pass.Magnitudes) (pass_fault program pass.Mods) later).0
+    pass_none pass.Mods = (neither_found (pass_fault program pass.Magnitudes) (pass_fault program pass.Mods) later).1
 
     -- each item of each instance keeps the rules
     pub item_keeps : (instance : Instance) (item : Item) → In instance (instances program) → In item (items_at program instance) → ItemKept instance item
@@ -135,7 +122,7 @@ module _ (program : Program) where
         let owner = module_at program instance in
         let d = declares (entries owner) name m e in
         let among : In d.entry (entries owner) = d.among in
-        subst (EntityKept instance) d.means (elim (in_either (formals_from 0 owner.formals) (flat_map item_entries (items_at program instance)) d.entry (subst (λ (es : List Entry). In d.entry es) (entries_of_items owner) among)) [
+        subst (EntityKept instance) d.means (elim (in_either (formals_from 0 owner.formals) (flat_map item_entries (items_at program instance)) d.entry among) [
           | inl j ↦ formal_kept instance 0 owner.formals d.entry j
           | inr j ↦ let r = item_of_entry owner d.entry j in entry_kept instance r.0 d.entry (item_keeps instance r.0 i r.1) r.2
         ])

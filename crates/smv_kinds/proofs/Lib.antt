@@ -8,7 +8,6 @@ pub mod KeptLemmas
 pub mod SoundLemmas
 pub mod TypeLemmas
 pub mod InnerLemmas
-pub mod BindingLemmas
 pub mod ItemLemmas
 pub mod WholeLemmas
 mod Examples

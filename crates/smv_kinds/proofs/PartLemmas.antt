@@ -1,7 +1,7 @@
 -- A value of one part agrees with the facts of the whole set.
-use Rattle.std.proofs.Common.{◌≡◌, Bool, true, false, ◌&&◌, ◌||◌, ◌⊎◌, inl, inr, List, [], ◌∷◌, Option, Some, None, refl, sym, ap, ◌∙◌, subst, arith}
+use Rattle.std.proofs.Common.{◌≡◌, Bool, true, false, ◌&&◌, ◌||◌, ◌⊎◌, inl, inr, List, [], ◌∷◌, Option, Some, None, refl, sym, subst, arith}
+use Rattle.std.proofs.lemmas.Bool.{and_parts}
 use Rattle.std.specs.Prelude.{◌≤ℤ◌}
-use Rattle.std.specs.Int.{int_min, int_max}
 use Rattle.std.specs.List.{fold, list_all, AllByRecursion}
 use Rattle.std.proofs.lemmas.Int.{ints, clamps}
 use Rattle.smv_meaning.specs.declared.value.Value.{Value}
@@ -12,7 +12,6 @@ use Rattle.smv_kinds.specs.declared.facts.Facts.{Facts}
 use Rattle.smv_kinds.specs.Intervals.{hull}
 use Rattle.smv_kinds.specs.Sorts.{is_boolean, is_same_kind, has_kind, is_small, join_both}
 use Rattle.smv_kinds.specs.Facts.{node, suits, parts_sort, all_fit, all_suit, all_kinds, all_small, all_mods, parts_facts}
-use Rattle.smv_kinds.proofs.IntervalLemmas.{both_true}
 use Rattle.smv_kinds.specs.Soundness.{IsTruth, IsCount, Fits, FitsKnown, IsOf, IsKept}
 
 -- an interval within another
@@ -86,7 +85,7 @@ joined i (Some (Number a)) (Some Nothing) h = record { left = record { inner = h
 
 pub each_all : {A : Type 0} (f : A → Bool) (xs : List A) → list_all f xs ≡ true → AllByRecursion (λ x. f x ≡ true) xs
 each_all f [] h = tt
-each_all f (x ∷ xs) h = let b = both_true (f x) (list_all f xs) h in (b.0, each_all f xs b.1)
+each_all f (x ∷ xs) h = let b = and_parts (f x) (list_all f xs) h in (b.0, each_all f xs b.1)
 
 pub each_both : {A : Type 0} (P Q R : A → Type 0) → ((x : A) → P x → Q x → R x) → (xs : List A) → AllByRecursion P xs → AllByRecursion Q xs → AllByRecursion R xs
 each_both P Q R transfer [] p q = tt
@@ -168,8 +167,8 @@ pub record Node (s : Option Sort) (kinds small mods : Bool) : Type 0 where
 
 pub node_kept : (s : Option Sort) (fits kinds small mods : Bool) → IsKept (node s fits kinds small mods) → Node s kinds small mods
 node_kept s fits kinds small mods h =
-    let a = both_true kinds (has_kind s) h.kinds in
-    let b = both_true small (is_small s) h.small in
+    let a = and_parts kinds (has_kind s) h.kinds in
+    let b = and_parts small (is_small s) h.small in
     record { kinds_kept = a.0; small_kept = b.0; mods_kept = h.mods; kind = a.1; narrow = b.1 }
 
 pub as_boolean : (s : Option Sort) (v : Value) → is_boolean s ≡ true → FitsKnown s v → IsTruth v
@@ -189,7 +188,7 @@ pub part_of : (parts : List Facts) → IsKept (parts_facts parts) → AllByRecur
 part_of parts kept =
     let s = parts_sort parts in
     let n = node_kept s (is_boolean s || all_fit parts) (all_kinds parts && all_suit s parts) (all_small parts) (all_mods parts) kept in
-    let k = both_true (all_kinds parts) (all_suit s parts) n.kinds_kept in
+    let k = and_parts (all_kinds parts) (all_suit s parts) n.kinds_kept in
     let suit = each_all (suits s) parts k.1 in
     let sorted = each_both (λ x. suits s x ≡ true) (λ x. CoversBy s x.sort) (λ x. (v : Value) → IsOf x v → FitsKnown s v) (λ x u c v h. one_fits s x v n.kind n.narrow u c h) parts suit (covers_each s parts refl) in
     each_both (λ x. (v : Value) → IsOf x v → FitsKnown s v) (λ x. (all_fit parts ≡ true → x.fits ≡ true)) (λ x. (v : Value) → IsOf x v → IsOf (parts_facts parts) v)

@@ -1,6 +1,7 @@
 -- An expression that keeps the rules has a value that agrees with its facts, where its names have
 -- values of their sorts.
 use Rattle.std.proofs.Common.{◌≡◌, ℕ, zero, suc, Bool, true, false, ◌&&◌, ◌||◌, inl, inr, List, [], ◌∷◌, map, Option, Some, None, refl, sym, ap, ◌∙◌, subst, arith}
+use Rattle.std.proofs.lemmas.Bool.{and_parts}
 use Rattle.std.specs.Prelude.{ℤ, pos, nat_le, int_le}
 use Rattle.std.specs.List.{fold, list_all, AllByRecursion}
 use Rattle.std.proofs.lemmas.Int.{ints}
@@ -11,19 +12,18 @@ use Rattle.smv_ast.specs.declared.syntax.Branch.{Branch, Branch-F, roll-Branch, 
 use Rattle.smv_meaning.specs.declared.value.Value.{Value}
 use Rattle.smv_meaning.specs.declared.value.Value.TheVariants.{Boolean as Truth, Number as Whole, Symbol as Word}
 use Rattle.smv_meaning.specs.Value.{Name, and_then, of_both, truth, same, operate, negated, logical_not, in_range}
-use Rattle.smv_meaning.specs.Denotations.{Environment, Valued, Allowed, Denotation, BranchDenotation, single, parts_allow, taken_in, holds_in, case_value, case_allows, choice_denotation, expr_denotation, branch_denotation, denotation_of, choice_allows, branch_denotation_of}
+use Rattle.smv_meaning.specs.Denotations.{Environment, Valued, Allowed, Denotation, BranchDenotation, single, parts_allow, taken_in, holds_in, case_value, case_allows, choice_denotation, expr_denotation, denotation_of, choice_allows, branch_denotation_of}
 use Rattle.smv_kinds.specs.declared.sorts.Sort.{Sort}
 use Rattle.smv_kinds.specs.declared.sorts.Sort.TheVariants.{Nothing}
 use Rattle.smv_kinds.specs.declared.facts.Facts.{Facts}
 use Rattle.smv_kinds.specs.Sorts.{is_boolean, has_kind, is_small, join, join_both, binary_sort, truth_sort, if_known, interval_sort}
-use Rattle.smv_kinds.specs.Facts.{truth_facts, number_facts, name_facts, negation_facts, not_facts, next_facts, binary_facts, parts_sort, parts_facts, interval_facts, case_facts, within_choice, all_kinds, all_fit, all_suit, ChoiceFacts, Parts, Between, BranchFacts, SortEnvironment, pick_facts, choice_layer, expr_layer, branch_layer, facts_of, choice_facts_of, branch_facts_of}
+use Rattle.smv_kinds.specs.Facts.{truth_facts, number_facts, name_facts, negation_facts, not_facts, next_facts, binary_facts, parts_sort, parts_facts, interval_facts, case_facts, within_choice, all_kinds, all_fit, all_suit, ChoiceFacts, Parts, Between, BranchFacts, SortEnvironment, pick_facts, choice_layer, expr_layer, facts_of, choice_facts_of, branch_facts_of}
 use Rattle.smv_meaning.specs.MentionedPaths.{choice_denotations, expr_denotations, denotation_roll, choice_roll, branch_roll}
 use Rattle.smv_kinds.specs.Monotone.{IsKnown, choice_facts, expr_facts, choice_facts_roll, facts_roll, branch_facts_roll}
 use Rattle.smv_kinds.specs.Soundness.{IsTruth, FitsKnown, IsOf, Meets, IsKept, Allows, Shape, BranchShape, single_shape, choice_shape_layer, expr_shape_layer, branch_shape_layer, shape_of, choice_shape, branch_shape}
-use Rattle.smv_kinds.proofs.IntervalLemmas.{both_true}
 use Rattle.smv_kinds.proofs.ValueLemmas.{count_is, operator_transfer, negation_transfer, not_transfer, same_value}
 use Rattle.smv_kinds.proofs.PartLemmas.{node_kept, as_boolean, either_true, part_of}
-use Rattle.smv_kinds.proofs.KeptLemmas.{HasOne, AllKept, first_kept, parts_kept, CaseKept, case_kept, negation_kept, not_kept, next_kept, binary_kept, within_kept}
+use Rattle.smv_kinds.proofs.KeptLemmas.{HasOne, AllKept, first_kept, parts_kept, case_kept, negation_kept, not_kept, next_kept, binary_kept, within_kept}
 
 -- ---- defined values
 
@@ -136,7 +136,7 @@ module _ (on : SortEnvironment) where
   parts_total now after n a [] k s v = (false, refl)
   parts_total now after n a (x ∷ xs) k s v =
       let f = first_kept (facts_of on x.0) (facts_from xs) k in
-      let t = both_true (shape_of x.0).free (list_all (λ p. p.free) (shapes_from xs)) s in
+      let t = and_parts (shape_of x.0).free (list_all (λ p. p.free) (shapes_from xs)) s in
       let b = (x.1.allows now after n a f.0 t.0).total v in
       let c = parts_total now after n a xs f.1 t.1 v in
       (b.0 || c.0, ap (λ (o : Option Bool). of_both (λ b c. Some (b || c)) o (parts_allow now after v (map denotation_of (map (λ x. x.0) xs)))) b.1 ∙ ap (of_both (λ b c. Some (b || c)) (Some b.0)) c.1)
@@ -144,7 +144,7 @@ module _ (on : SortEnvironment) where
   loose_parts : (xs : List Exprs) → list_all (λ p. p.plain) (shapes_from xs) ≡ true → list_all (λ p. p.free) (shapes_from xs) ≡ true
   loose_parts [] h = refl
   loose_parts (x ∷ xs) h =
-      let t = both_true (shape_of x.0).plain (list_all (λ p. p.plain) (shapes_from xs)) h in
+      let t = and_parts (shape_of x.0).plain (list_all (λ p. p.plain) (shapes_from xs)) h in
       rw (x.1.loose t.0) (loose_parts xs t.1)
 
   parts_some : (now after : Environment) → Agrees now → Agrees after → (xs : List Exprs) → IsKept (parts_facts (facts_from xs)) → list_all (λ p. p.free) (shapes_from xs) ≡ true →
@@ -152,7 +152,7 @@ module _ (on : SortEnvironment) where
   parts_some now after n a [] k s = let e = k.kinds in cc
   parts_some now after n a (x ∷ xs) k s =
       let f = first_kept (facts_of on x.0) (facts_from xs) (parts_kept (facts_from (x ∷ xs)) k) in
-      let t = both_true (shape_of x.0).free (list_all (λ p. p.free) (shapes_from xs)) s in
+      let t = and_parts (shape_of x.0).free (list_all (λ p. p.free) (shapes_from xs)) s in
       let w = (x.1.allows now after n a f.0 t.0).some in
       let c = parts_total now after n a xs f.1 t.1 w.0 in
       let up = (part_of (facts_from (x ∷ xs)) k).0 in
@@ -164,7 +164,7 @@ module _ (on : SortEnvironment) where
   parts_each now after n a f [] up k s v h = cc
   parts_each now after n a f (x ∷ xs) up k s v h =
       let g = first_kept (facts_of on x.0) (facts_from xs) k in
-      let t = both_true (shape_of x.0).free (list_all (λ p. p.free) (shapes_from xs)) s in
+      let t = and_parts (shape_of x.0).free (list_all (λ p. p.free) (shapes_from xs)) s in
       let one = x.1.allows now after n a g.0 t.0 in
       let b = one.total v in
       let c = parts_total now after n a xs g.1 t.1 v in
@@ -182,7 +182,7 @@ module _ (on : SortEnvironment) where
 
   interval_each : (low high : ℤ) → is_small (Some (interval_sort low high)) ≡ true → (v : Value) → in_range low high v ≡ true → (w : Value) × (same v w ≡ true) × IsOf (interval_facts low high) w
   interval_each low high small (Whole m) h =
-      let b = both_true (int_le low m) (int_le m high) h in
+      let b = and_parts (int_le low m) (int_le m high) h in
       let l = b.0 in
       let k = b.1 in
       (Whole m, same_value (Whole m), record { sort = (count_is low high m small (omega (arith, ints, l)) (omega (arith, ints, k))).0; serves = λ f. cc })
@@ -243,10 +243,10 @@ module _ (on : SortEnvironment) where
   ready f flag [] c fit v u s = tt
   ready f flag (b ∷ bs) c fit v u s =
       let x = first_kept (branch_facts_of on b.0).cond (conds bs) c in
-      let y = both_true (branch_facts_of on b.0).cond.fits (all_fit (conds bs)) fit in
+      let y = and_parts (branch_facts_of on b.0).cond.fits (all_fit (conds bs)) fit in
       let z = first_kept (branch_facts_of on b.0).value (values bs) v in
-      let p = both_true ((branch_shape b.0).cond.plain && flag (branch_shape b.0)) (list_all (λ b. b.cond.plain && flag b) (branch_shapes bs)) s in
-      let q = both_true (branch_shape b.0).cond.plain (flag (branch_shape b.0)) p.0 in
+      let p = and_parts ((branch_shape b.0).cond.plain && flag (branch_shape b.0)) (list_all (λ b. b.cond.plain && flag b) (branch_shapes bs)) s in
+      let q = and_parts (branch_shape b.0).cond.plain (flag (branch_shape b.0)) p.0 in
       (record { cond = x.0; fits = y.0; plain = q.0; value = z.0; flagged = q.1; up = u.0 }, ready f flag bs x.1 y.1 z.1 u.1 p.1)
 
   module _ (now after : Environment) (n : Agrees now) (a : Agrees after) (flag : BranchShape → Bool) where
@@ -324,8 +324,8 @@ module _ (on : SortEnvironment) where
   case_loose : (bs : List Branches) → list_all (λ b. b.cond.plain && b.value.plain) (branch_shapes bs) ≡ true → list_all (λ b. b.cond.plain && b.value.free) (branch_shapes bs) ≡ true
   case_loose [] h = refl
   case_loose (b ∷ bs) h =
-      let x = both_true ((branch_shape b.0).cond.plain && (branch_shape b.0).value.plain) (list_all (λ b. b.cond.plain && b.value.plain) (branch_shapes bs)) h in
-      let y = both_true (branch_shape b.0).cond.plain (branch_shape b.0).value.plain x.0 in
+      let x = and_parts ((branch_shape b.0).cond.plain && (branch_shape b.0).value.plain) (list_all (λ b. b.cond.plain && b.value.plain) (branch_shapes bs)) h in
+      let y = and_parts (branch_shape b.0).cond.plain (branch_shape b.0).value.plain x.0 in
       rw (y.0, b.1.value.loose y.1) (case_loose bs x.1)
 
   cases_sound : (bs : List Branches) → SoundAs (case_facts (conds bs) (values bs)) (expr_shape_layer (Expr-F.Cases (branch_shapes bs))) (expr_denotation (Expr-F.Cases (denotations bs)))
@@ -381,7 +381,7 @@ module _ (on : SortEnvironment) where
   -- the truth value of `in`
   within_of : (a : Facts) (c : ChoiceFacts) (v : Value) (b : Bool) → IsKept (pick_facts c) → IsOf a v → IsOf (within_choice a c) (Truth b)
   within_of a (Parts parts) v b k h =
-      let there = (both_true (all_kinds parts && all_suit (parts_sort parts) parts) (has_kind (parts_sort parts)) k.kinds).1 in
+      let there = (and_parts (all_kinds parts && all_suit (parts_sort parts) parts) (has_kind (parts_sort parts)) k.kinds).1 in
       record { sort = if_known_of a.sort (truth_sort (parts_sort parts)) v (Truth b) h.sort (truth_there (parts_sort parts) b there); serves = λ e. (b, refl) }
   within_of a (Between low high) v b k h = record { sort = truth_of a.sort v b h.sort; serves = λ e. (b, refl) }
 
@@ -404,11 +404,11 @@ module _ (on : SortEnvironment) where
   next_sound a = alone _ _ _ (λ now after n u k p. next_value (facts_of on a.0) ((denotation_of a.0).value after after) k (λ x. a.1.value after after u u x p))
 
   binary_sound : (op : Op) (a b : Exprs) → SoundAs (binary_facts op (facts_of on a.0) (facts_of on b.0)) (single_shape ((shape_of a.0).plain && (shape_of b.0).plain)) (single (λ now after. of_both (operate op) ((denotation_of a.0).value now after) ((denotation_of b.0).value now after)))
-  binary_sound op a b = alone _ _ _ (λ now after n u k p. let q = both_true (shape_of a.0).plain (shape_of b.0).plain p in
+  binary_sound op a b = alone _ _ _ (λ now after n u k p. let q = and_parts (shape_of a.0).plain (shape_of b.0).plain p in
       binary_value op (facts_of on a.0) (facts_of on b.0) ((denotation_of a.0).value now after) ((denotation_of b.0).value now after) k (λ x. a.1.value now after n u x q.0) (λ x. b.1.value now after n u x q.1))
 
   within_sound : (a : Exprs) (c : Choices) → SoundAs (within_choice (facts_of on a.0) (choice_facts_of on c.0)) (single_shape ((shape_of a.0).plain && (choice_shape c.0).plain)) (single (λ now after. and_then ((denotation_of a.0).value now after) (λ v. and_then (choice_allows c.0 now after v) (λ b. Some (Truth b)))))
-  within_sound a c = alone _ _ _ (λ now after n u k p. let q = both_true (shape_of a.0).plain (choice_shape c.0).plain p in
+  within_sound a c = alone _ _ _ (λ now after n u k p. let q = and_parts (shape_of a.0).plain (choice_shape c.0).plain p in
       within_value (facts_of on a.0) (choice_facts_of on c.0) ((denotation_of a.0).value now after) (choice_allows c.0 now after) k (λ x. a.1.value now after n u x q.0) (λ x v. c.1.within now after n u x q.1 v))
 
   pick_sound : (c : Choices) → SoundAs (pick_facts (choice_facts_of on c.0)) (record { plain = false; free = (choice_shape c.0).free }) (record { value = λ now after. None; allows = choice_allows c.0 })

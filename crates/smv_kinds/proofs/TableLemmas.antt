@@ -1,11 +1,11 @@
 -- A table with the sorts of all slots has those of all names.
-use Rattle.std.proofs.Common.{◌≡◌, ℕ, ◌≤◌, List, length, Option, None, sym, ap, ◌∙◌}
+use Rattle.std.proofs.Common.{◌≡◌, ℕ, List, Option, sym, ap, ◌∙◌}
 use mathlib.Core.Path.{fun_ext}
 use Rattle.smv_ast.specs.declared.program.Program.{Program}
 use Rattle.smv_meaning.specs.declared.table.InstanceTable.{InstanceTable}
 use Rattle.fixpoint.specs.Fixpoints.{fixpoint, entry}
 use Rattle.smv_meaning.specs.Slots.{by_slot, binding_in, HasSlots}
-use Rattle.smv_meaning.proofs.SlotLemmas.{fixpoint_slots, slot_step_past}
+use Rattle.smv_meaning.proofs.SlotLemmas.{fixpoint_slots}
 use Rattle.smv_kinds.specs.declared.sorts.Sort.{Sort}
 use Rattle.smv_kinds.specs.SortsOfNames.{sort_of, symbol_sort, row_variable, sort_slots, AreSorts}
 

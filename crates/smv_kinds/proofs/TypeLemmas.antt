@@ -1,5 +1,6 @@
 -- The values of a type are of its sort.
-use Rattle.std.proofs.Common.{◌≡◌, ℕ, zero, suc, inl, inr, true, false, List, [], ◌∷◌, Option, Some, None, refl, sym, ap, ◌∙◌, subst, arith}
+use Rattle.std.proofs.Common.{◌≡◌, ℕ, zero, suc, inl, inr, true, false, List, [], ◌∷◌, Some, refl, sym, subst, arith}
+use Rattle.std.proofs.lemmas.Bool.{and_parts}
 use Rattle.std.specs.Prelude.{ℤ, pos, negsuc, ◌+ℤ◌, ◌-ℤ◌, ◌≤ℤ◌}
 use Rattle.std.specs.List.{fold}
 use Rattle.std.proofs.lemmas.Int.{ints}
@@ -13,7 +14,7 @@ use Rattle.smv_kinds.specs.declared.sorts.Sort.TheVariants.{Number}
 use Rattle.smv_kinds.specs.Intervals.{is_within, saturated, between, alone, is_narrow, hull, first_alone, holding}
 use Rattle.smv_kinds.specs.Sorts.{is_small, type_sort}
 use Rattle.smv_kinds.specs.Soundness.{IsTruth, IsCount, Fits}
-use Rattle.smv_kinds.proofs.IntervalLemmas.{both_true, le_then, within_of, low_end, high_end}
+use Rattle.smv_kinds.proofs.IntervalLemmas.{le_then, within_of, low_end, high_end}
 use Rattle.smv_kinds.proofs.ValueLemmas.{count_in, count_is}
 use Rattle.smv_kinds.proofs.PartLemmas.{Inside, inside_self, hull_inside}
 use Rattle.smv_meaning.proofs.MemberLemmas.{In, from_map}
@@ -54,7 +55,7 @@ numbers_fit : (ns : List ℤ) (n : ℤ) → is_narrow (holding ns) ≡ true → 
 numbers_fit ns n s k =
     let i : Interval = holding ns in
     let h = (fold_inside ns (first_alone ns) i n (inside_self i)).1 k in
-    let e = both_true (is_within i.low) (is_within i.high) s in
+    let e = and_parts (is_within i.low) (is_within i.high) s in
     let l = low_end n i.low (within_of i.low e.0) h.low in
     let u = high_end n i.high (within_of i.high e.1) h.high in
     (count_in i n s (le_then i.low (saturated n) n h.low l) (le_then n (saturated n) i.high u h.high)).0

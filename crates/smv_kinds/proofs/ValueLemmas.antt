@@ -1,5 +1,6 @@
 -- The result of an operator on values of two sorts has the result sort.
 use Rattle.std.proofs.Common.{◌≡◌, zero, suc, Bool, true, false, not, ◌&&◌, ◌||◌, cond, Option, Some, None, refl, sym, ap, ◌∙◌, subst, arith}
+use Rattle.std.proofs.lemmas.Bool.{and_parts}
 use Rattle.std.specs.Prelude.{ℤ, pos, negsuc, neg_ℤ, ◌+ℤ◌, ◌-ℤ◌, ◌*ℤ◌, ◌≤ℤ◌, int_le, int_lt, ◌%◌}
 use Rattle.std.proofs.lemmas.Int.{ints}
 use Rattle.std.proofs.lemmas.Slice.Eq.{bytes_eq-Decides}
@@ -17,15 +18,15 @@ use Rattle.smv_kinds.specs.Intervals.{limit, is_within, saturated, between, alon
 use Rattle.smv_kinds.specs.Sorts.{is_number, is_small, binary_sort, result_sort, negated_sort, truth_sort, divides}
 use Rattle.smv_kinds.specs.Facts.{binary_rule, mod_rule}
 use Rattle.smv_kinds.specs.Soundness.{IsCount, Fits, FitsKnown, IsOf}
-use Rattle.smv_kinds.proofs.IntervalLemmas.{both_true, le_then, same_le, within_of, of_within, low_end, high_end}
+use Rattle.smv_kinds.proofs.IntervalLemmas.{le_then, same_le, within_of, of_within, low_end, high_end}
 use Rattle.smv_kinds.proofs.ProductLemmas.{low_of, high_of, low_below, high_above, low_under, high_over, product_between}
 
 -- ---- numbers
 
 fits_within : (n : ℤ) → is_within n ≡ true → fits n ≡ true
 unfolding is_within
-fits_within (pos n) h = let b = (both_true (int_le (neg_ℤ limit) (pos n)) (int_le (pos n) limit) h).1 in grind (arith, ints)
-fits_within (negsuc n) h = let b = (both_true (int_le (neg_ℤ limit) (negsuc n)) (int_le (negsuc n) limit) h).0 in grind (arith, ints)
+fits_within (pos n) h = let b = (and_parts (int_le (neg_ℤ limit) (pos n)) (int_le (pos n) limit) h).1 in grind (arith, ints)
+fits_within (negsuc n) h = let b = (and_parts (int_le (neg_ℤ limit) (negsuc n)) (int_le (negsuc n) limit) h).0 in grind (arith, ints)
 
 pub whole_is : (n : ℤ) → is_within n ≡ true → whole n ≡ Some (Whole n)
 whole_is n h = ap (λ (b : Bool). cond b (Some (Whole n)) None) (fits_within n h)
@@ -33,7 +34,7 @@ whole_is n h = ap (λ (b : Bool). cond b (Some (Whole n)) None) (fits_within n h
 -- a number between the ends of an interval within the limit
 pub count_in : (i : Interval) (n : ℤ) → is_narrow i ≡ true → i.low ≤ℤ n → n ≤ℤ i.high → IsCount i (Whole n) × (is_within n ≡ true)
 count_in i n h a b =
-    let e = both_true (is_within i.low) (is_within i.high) h in
+    let e = and_parts (is_within i.low) (is_within i.high) h in
     let l = (within_of i.low e.0).above in
     let u = (within_of i.high e.1).below in
     let w = of_within n (record { above = le_then (neg_ℤ limit) i.low n l a; below = le_then n i.high limit b u }) in
@@ -42,7 +43,7 @@ count_in i n h a b =
 -- a number between two ends, where their interval is within the limit
 pub count_is : (low high n : ℤ) → is_small (Some (Number (between low high))) ≡ true → low ≤ℤ n → n ≤ℤ high → Fits (Number (between low high)) (Whole n) × (is_within n ≡ true)
 count_is low high n h a b =
-    let e = both_true (is_within (saturated low)) (is_within (saturated high)) h in
+    let e = and_parts (is_within (saturated low)) (is_within (saturated high)) h in
     let l = low_end low (saturated low) (within_of (saturated low) e.0) (same_le (saturated low)) in
     let u = high_end high (saturated high) (within_of (saturated high) e.1) (same_le (saturated high)) in
     count_in (between low high) n h (le_then (saturated low) low n l a) (le_then n high (saturated high) b u)
@@ -56,7 +57,7 @@ product_made : (p q r s n : ℤ) → is_narrow (hull (hull (alone p) (alone q)) 
 unfolding hull
 product_made p q r s n h a b =
     let i : Interval = hull (hull (alone p) (alone q)) (hull (alone r) (alone s)) in
-    let e = both_true (is_within i.low) (is_within i.high) h in
+    let e = and_parts (is_within i.low) (is_within i.high) h in
     let l = within_of i.low e.0 in
     let u = within_of i.high e.1 in
     let f = low_below (saturated p) (saturated q) (saturated r) (saturated s) in
@@ -110,7 +111,7 @@ mul_transfer i j v w small a b =
 
 mod_transfer : (i j : Interval) (v w : Value) → is_small (Some (Number (intervals.remainder j))) ≡ true → divides (Some (Number i)) (Some (Number j)) ≡ true → IsCount i v → IsCount j w → Transfers op.Mod (Some (Number i)) (Some (Number j)) v w
 mod_transfer i j v w small d a b =
-    let e = both_true (int_le (pos 0) i.low) (int_lt (pos 0) j.low) d in
+    let e = and_parts (int_le (pos 0) i.low) (int_lt (pos 0) j.low) d in
     let p = a.above in let q = b.above in
     let f = e.0 in let g = e.1 in
     let positive : int_lt (pos 0) b.number ≡ true = grind (arith, ints) in
@@ -123,7 +124,7 @@ compared (Some s) (Some t) p v w b h k is e = (Truth b, e, rw (is s t) (b, refl)
 
 ordered : (p : Op) (s t : Option Sort) (v w : Value) → ((m n : ℤ) → (b : Bool) × (operate p (Whole m) (Whole n) ≡ Some (Truth b))) → ((s t : Sort) → result_sort p s t ≡ Boolean) → is_number s && is_number t ≡ true → FitsKnown s v → FitsKnown t w → Transfers p s t v w
 ordered p s t v w at is rule h k =
-    let n = both_true (is_number s) (is_number t) rule in
+    let n = and_parts (is_number s) (is_number t) rule in
     let x = counted s v n.0 h in
     let y = counted t w n.1 k in
     let r = at x.count.number y.count.number in
@@ -131,7 +132,7 @@ ordered p s t v w at is rule h k =
 
 logical : (p : Op) (a b : Facts) (v w : Value) → ((c d : Bool) → (r : Bool) × ((v w : Value) → truth v ≡ Some c → truth w ≡ Some d → operate p v w ≡ Some (Truth r))) → ((s t : Sort) → result_sort p s t ≡ Boolean) → a.fits && b.fits ≡ true → IsOf a v → IsOf b w → Transfers p a.sort b.sort v w
 logical p a b v w at is rule h k =
-    let n = both_true a.fits b.fits rule in
+    let n = and_parts a.fits b.fits rule in
     let x = h.serves n.0 in
     let y = k.serves n.1 in
     let r = at x.0 y.0 in
@@ -140,7 +141,7 @@ logical p a b v w at is rule h k =
 arithmetic : (p : Op) (s t : Option Sort) (v w : Value) → is_number s && is_number t ≡ true → is_small (binary_sort p s t) ≡ true → FitsKnown s v → FitsKnown t w →
     ((i j : Interval) → is_small (binary_sort p (Some (Number i)) (Some (Number j))) ≡ true → s ≡ Some (Number i) → t ≡ Some (Number j) → IsCount i v → IsCount j w → Transfers p (Some (Number i)) (Some (Number j)) v w) → Transfers p s t v w
 arithmetic p s t v w rule small h k go =
-    let n = both_true (is_number s) (is_number t) rule in
+    let n = and_parts (is_number s) (is_number t) rule in
     let x = counted s v n.0 h in
     let y = counted t w n.1 k in
     let l : is_small (binary_sort p (Some (Number x.interval)) (Some (Number y.interval))) ≡ true =

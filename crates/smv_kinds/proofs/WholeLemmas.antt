@@ -1,6 +1,6 @@
 -- Where no rule is broken, each name of each instance that has a kind has a value of its sort.
-use Rattle.std.proofs.Common.{◌≡◌, ℕ, zero, suc, ◌+◌, ◌-◌, ◌≤◌, ◌⊎◌, inl, inr, Bool, true, false, List, [], ◌∷◌, ◌++◌, Option, Some, None, Result, Ok, Err, IfOk, refl, sym, ap, ◌∙◌, subst, arith}
-use Rattle.std.specs.Prelude.{filter, not}
+use Rattle.std.proofs.Common.{◌≡◌, ℕ, zero, suc, ◌≤◌, inl, inr, Bool, true, false, List, [], ◌∷◌, ◌++◌, Option, Some, None, Result, Ok, Err, IfOk, refl, sym, ap, ◌∙◌, subst, arith}
+use Rattle.std.specs.Prelude.{not}
 use Rattle.std.specs.List.{Contains}
 use Rattle.std.specs.Option.{is_some}
 use Rattle.smv_ast.specs.declared.syntax.Path.{Path}
@@ -39,8 +39,7 @@ use Rattle.smv_kinds.proofs.SoundLemmas.{Agrees, sound}
 use Rattle.smv_kinds.proofs.TypeLemmas.{type_fits}
 use Rattle.smv_kinds.proofs.InnerLemmas.{Kept, part_kept}
 use Rattle.smv_meaning.proofs.MemberLemmas.{In, in_of, all_in, from_filter}
-use Rattle.smv_kinds.proofs.BindingLemmas.{variable_in as variable_among, bound, resolves_in}
-use Rattle.smv_kinds.proofs.InstanceLemmas.{then_some}
+use Rattle.smv_meaning.proofs.BindingLemmas.{then_some, variable_in as variable_among, bound, resolves_in}
 use Rattle.smv_kinds.proofs.ItemLemmas.{PlainKept, ActualKept, ItemKept, item_keeps, entity_keeps}
 
 not_both : (b : Bool) → not b ≡ true → b ≡ true → ⊥

@@ -17,7 +17,7 @@ use Rattle.smv_meaning.specs.Slots.{binding_in, by_slot, slot_step}
 use Rattle.smv_kinds.specs.declared.sorts.Sort.{Sort}
 use Rattle.smv_kinds.specs.declared.sorts.Sort.TheVariants.{Symbol, Nothing}
 use Rattle.smv_kinds.specs.declared.facts.Facts.{Facts}
-use Rattle.smv_kinds.specs.declared.context.Reader.{Reader}
+use Rattle.smv_kinds.specs.declared.context.RowSorting.{RowSorting}
 use Rattle.smv_kinds.specs.Sorts.{defined_sort, type_sort}
 use Rattle.smv_kinds.specs.Facts.{SortEnvironment, facts_of}
 
@@ -128,7 +128,7 @@ AreSorts program table solution = (qualified : QualifiedName ℕ)
     → by_slot table (entry solution) qualified
     ≡ sorts_in (binding_in table) (row_variable table) (symbol_sort program) qualified
 
--- the sorts of paths that a reader gives
-abbrev pub reads : Reader → SortEnvironment
-reads reader = row_sorting reader.context.now.program.now reader.context.now.table.now
-    reader.solution.now reader.row
+-- the environment of sorts of a row
+abbrev pub sorting_of : RowSorting → SortEnvironment
+sorting_of sorting = row_sorting sorting.context.now.program.now sorting.context.now.table.now
+    sorting.solution.now sorting.row

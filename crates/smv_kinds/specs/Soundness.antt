@@ -1,6 +1,6 @@
 -- Soundness of the rules: an expression that keeps them has a value of its kind, within its
 -- interval and the limit of magnitude.
-use Rattle.std.specs.Prelude.{◌≡◌, Bool, true, false, not, ◌&&◌, ◌⊎◌, List, [], ◌∷◌, filter, ℤ, int_le, ◌≤ℤ◌, Option, Some, None}
+use Rattle.std.specs.Prelude.{◌≡◌, Bool, true, false, not, ◌&&◌, ◌⊎◌, List, filter, ℤ, int_le, ◌≤ℤ◌, Option, Some, None}
 use Rattle.std.specs.List.{list_all, Contains}
 use Rattle.smv_ast.specs.declared.syntax.Expr.{Expr, fold-Expr, Expr-F}
 use Rattle.smv_ast.specs.declared.syntax.Choice.{Choice, fold-Choice, Choice-F}

@@ -6,7 +6,7 @@ ghost use Rattle.smv_meaning.specs.Faults.{ReportsFirst};
 ghost use Rattle.smv_meaning.specs.Instances.{instances};
 ghost use Rattle.smv_meaning.specs.ItemIndex.{IsItemIndex};
 ghost use Rattle.smv_meaning.specs.Slots as slots;
-ghost use Rattle.smv_kinds.specs.SortsOfNames as readings;
+ghost use Rattle.smv_kinds.specs.SortsOfNames as name_sorts;
 ghost use Rattle.smv_kinds.specs.Rules as spec;
 ghost use Rattle.smv_kinds.specs.Soundness as soundness;
 
@@ -18,8 +18,8 @@ use crate::sorts::Sort;
 use smv_ast::{Fault, Program};
 use smv_meaning::item_index::ItemsByName;
 use smv_meaning::rules::check_items;
+use smv_meaning::symbols::symbols_of;
 use smv_meaning::table::InstanceTable;
-use smv_names::symbols::symbols_of;
 use std::alloc::Global;
 
 /// Reports the first fault of one rule in an instance.
@@ -34,7 +34,7 @@ fn check_row<'t>(
     requires right { checking.IsTableOfProgram context.now.program.now context.now.table.now }
     requires index { IsItemIndex context.now.program.now index.now }
     requires row { row < length context.now.table.now.rows }
-    requires sorts { readings.AreSorts context.now.program.now context.now.table.now solution.now }
+    requires sorts { name_sorts.AreSorts context.now.program.now context.now.table.now solution.now }
     ensures { ReportsFirst (spec.instance_fault context.now.program.now pass
         (checking.instance_at context.now.table.now row)) result }
 {
@@ -62,7 +62,7 @@ fn check_pass<'t>(
     requires rows { checking.AreRows context.now.table.now order.now }
     requires order { map (checking.instance_at context.now.table.now) order.now
         ≡ instances context.now.program.now }
-    requires sorts { readings.AreSorts context.now.program.now context.now.table.now solution.now }
+    requires sorts { name_sorts.AreSorts context.now.program.now context.now.table.now solution.now }
     ensures { ReportsFirst (spec.pass_fault context.now.program.now pass) result }
 {
     for row in order {

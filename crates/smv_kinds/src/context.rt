@@ -4,7 +4,7 @@
 ghost use Rattle.std.specs.Prelude.{◌≡◌};
 ghost use Rattle.smv_meaning.specs.Slots as slots;
 ghost use Rattle.smv_meaning.specs.Values.{is_symbol};
-ghost use Rattle.smv_names.specs.Sets.{in_set};
+ghost use Rattle.smv_meaning.specs.NameSets.{in_set};
 
 use crate::sorts::Sort;
 use smv_ast::{Program, Text};
@@ -35,7 +35,7 @@ impl<'t> KindContext<'t> {
 
 /// The sorts of the paths of an instance, by a table of slots.
 #[derive(Drop)]
-pub struct Reader<'t> {
+pub struct RowSorting<'t> {
     pub context: &'t KindContext<'t>,
     pub solution: &'t [Option<Sort>],
     pub row: usize,

@@ -2,53 +2,24 @@
 
 ghost use Rattle.std.specs.Prelude.{◌≡◌, IfOk};
 ghost use Rattle.std.specs.Option.{is_some, option_map};
-ghost use Rattle.fixpoint.specs.Fixpoints.{entry};
-ghost use Rattle.smv_meaning.specs.Slots as slots;
-ghost use Rattle.smv_meaning.specs.Paths as paths;
 ghost use Rattle.smv_meaning.specs.Entries.{entity_view};
 ghost use Rattle.smv_kinds.specs.ItemRules as requirement;
-ghost use Rattle.smv_kinds.specs.SortsOfNames as readings;
+ghost use Rattle.smv_kinds.specs.SortsOfNames as name_sorts;
 ghost use Rattle.smv_kinds.specs.Rules as spec;
 
-use crate::context::{KindContext, Reader};
+use crate::context::RowSorting;
 use crate::expressions::facts_of;
 use crate::facts::{Facts, suits};
 use crate::instance_rule::InstanceRule;
 use crate::sorts::{Sort, type_sort};
-use smv_ast::{Expr, NoMemory, Text};
-use smv_meaning::aliases::entry_of;
+use smv_ast::{Expr, NoMemory};
+use smv_meaning::aliases::aliased;
 use smv_meaning::entries::Entity;
 use std::alloc::Global;
 
-/// The instance that a path of an instance resolves to.
-fn walk<'t>(context: &KindContext<'t>, start: usize, names: &[Text]) -> Option<usize>
-    ensures { result ≡ paths.walked
-        (slots.by_slot context.now.table.now (entry context.now.aliases.now)) start names.now }
-{
-    let mut row = start;
-    for name in names {
-        match entry_of(context.table, context.aliases, row, name.as_str()) {
-            Some(below) => row = below,
-            None => return None,
-        }
-    }
-    Some(row)
-}
-
-/// The instance that an expression denotes, if it is a path to one.
-fn aliased<'t>(context: &KindContext<'t>, row: usize, e: &Expr) -> Option<usize>
-    ensures { result ≡ paths.aliased
-        (slots.by_slot context.now.table.now (entry context.now.aliases.now)) row e.now }
-{
-    match e {
-        Expr::Name(path) => walk(context, row, path.names.as_slice()),
-        _ => None,
-    }
-}
-
 /// The sort of a variable, if the entity is one.
 fn target_sort(entity: Option<Entity>) -> Option<Sort>
-    ensures { result ≡ readings.target_sort (option_map entity_view entity.entry) }
+    ensures { result ≡ name_sorts.target_sort (option_map entity_view entity.entry) }
 {
     match entity {
         Some(Entity::Variable(type_)) => Some(type_sort(type_)),
@@ -61,12 +32,12 @@ impl<'t> InstanceRule<'t> {
     pub fn facts(&self, alloc: Global, e: &Expr) -> Result<Facts, NoMemory>
         ensures { IfOk result (λ f. f ≡ spec.facts_here self.now e.now) }
     {
-        let reader = Reader {
+        let sorting = RowSorting {
             context: self.context,
             solution: self.solution,
             row: self.row,
         };
-        let facts = facts_of(alloc, &reader, e)?;
+        let facts = facts_of(alloc, &sorting, e)?;
         Ok(facts)
     }
 
@@ -74,7 +45,7 @@ impl<'t> InstanceRule<'t> {
     pub fn is_instance(&self, e: &Expr) -> bool
         ensures { result ≡ spec.is_instance_here self.now e.now }
     {
-        let found = aliased(self.context, self.row, e);
+        let found = aliased(self.context.table, self.context.aliases, self.row, e);
         found.is_some()
     }
 

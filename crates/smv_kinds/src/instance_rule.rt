@@ -11,7 +11,7 @@ ghost use Rattle.fixpoint.specs.Fixpoints.{entry};
 ghost use Rattle.smv_meaning.specs.Paths as paths;
 ghost use Rattle.smv_meaning.specs.Slots.{by_slot};
 ghost use Rattle.smv_meaning.specs.InstanceTable.{entries_at};
-ghost use Rattle.smv_kinds.specs.SortsOfNames as readings;
+ghost use Rattle.smv_kinds.specs.SortsOfNames as name_sorts;
 
 use crate::context::KindContext;
 use crate::pass::Pass;
@@ -27,10 +27,10 @@ pub struct InstanceRule<'t> {
     pub pass: Pass,
     ghost within: { row < length context.now.table.now.rows },
     ghost targets: { (name : Name)
-        → readings.target_sort (entity_among (entries_at context.now.table.now.rows row) name)
-        ≡ readings.target_in context.now.program.now (instance_at context.now.table.now row) name },
-    ghost sorting: { readings.row_sorting context.now.program.now context.now.table.now solution.now
-        row ≡ readings.sorting_in context.now.program.now (instance_at context.now.table.now row) },
+        → name_sorts.target_sort (entity_among (entries_at context.now.table.now.rows row) name)
+        ≡ name_sorts.target_in context.now.program.now (instance_at context.now.table.now row) name },
+    ghost sorting: { name_sorts.row_sorting context.now.program.now context.now.table.now solution.now
+        row ≡ name_sorts.sorting_in context.now.program.now (instance_at context.now.table.now row) },
     ghost aliases_after: { (e : ExprSeen)
         → is_some (paths.aliased (by_slot context.now.table.now (entry context.now.aliases.now)) row
         e) ≡ is_some (paths.aliased (paths.aliases (instances.binding_at context.now.program.now))

@@ -8,7 +8,7 @@ ghost use Rattle.smv_meaning.specs.InstanceTable.{entries_at};
 ghost use Rattle.std.specs.Option.{option_map};
 ghost use Rattle.smv_kinds.specs.SortsOfNames as spec;
 
-use crate::context::{KindContext, Reader};
+use crate::context::{KindContext, RowSorting};
 use crate::expressions::facts_of;
 use crate::order::evaluation_order;
 use crate::sorts::{Sort, defined_sort, type_sort};
@@ -45,10 +45,10 @@ fn known_of(solution: &[Option<Sort>], slot: usize) -> Option<Sort>
     }
 }
 
-impl<'t> Reader<'t> {
+impl<'t> RowSorting<'t> {
     /// The sort of a path.
     pub fn sort_of(&self, path: &Path) -> Option<Sort>
-        ensures { result ≡ spec.reads self.now path.now.names }
+        ensures { result ≡ spec.sorting_of self.now path.now.names }
     {
         let context = self.context;
         match resolve(
@@ -101,12 +101,12 @@ impl<'t> Sorts<'t> {
             ≡ (spec.row_facts self.now.context.now.program.now self.now.context.now.table.now
             solution.now row e.now).sort) }
     {
-        let reader = Reader {
+        let sorting = RowSorting {
             context: self.context,
             solution,
             row,
         };
-        let facts = facts_of(alloc, &reader, e)?;
+        let facts = facts_of(alloc, &sorting, e)?;
         Ok(facts.sort)
     }
 }

@@ -1,20 +1,14 @@
 -- Environments that agree on the paths that an expression mentions give it the same value and the same choices.
-use Rattle.std.proofs.Common.{◌≡◌, Bool, List, Option, Some, None, refl, sym, ◌∙◌}
+use Rattle.std.proofs.Common.{◌≡◌, List, sym, ◌∙◌}
 use Rattle.std.specs.List.{Contains}
-use Rattle.fixpoint.specs.OptionOrder.{Le}
+use Rattle.fixpoint.proofs.Laws.{agree as both_ways}
 use Rattle.smv_ast.specs.declared.syntax.Path.{Path}
 use Rattle.smv_ast.specs.declared.syntax.Expr.{Expr}
 use Rattle.smv_meaning.specs.declared.value.Value.{Value}
 use Rattle.smv_meaning.specs.Value.{Name}
 use Rattle.smv_meaning.specs.Mentions.{paths_of}
 use Rattle.smv_meaning.specs.Denotations.{Environment, denotation_of}
-use Rattle.smv_meaning.specs.Layers.{LeDenotation}
 use Rattle.smv_meaning.specs.MentionedPaths.{Shared, mentioned_keeps}
-
-both_ways : {A : Type 0} (o q : Option A) → Le o q → Le q o → o ≡ q
-both_ways None None h k = refl
-both_ways None (Some a) h k = let e : None ≡ Some a = k a refl in cc
-both_ways (Some a) q h k = sym (h a refl)
 
 -- two pairs of environments agree on a path
 pub record Agrees (now after now' after' : Environment) (names : List Name) : Type 0 where

@@ -1,11 +1,10 @@
 -- The limit on the depth of instances cuts none off where no module is on a cycle.
-use Rattle.std.proofs.Common.{◌≡◌, ℕ, zero, suc, ◌+◌, ◌<◌, ◌≤◌, Bool, true, false, cond, inl, inr, List, [], ◌∷◌, length, nat_lt, codes, refl, sym, ap, subst, arith}
-use Rattle.std.specs.List.{flat_map}
+use Rattle.std.proofs.Common.{◌≡◌, ℕ, zero, suc, ◌+◌, ◌<◌, ◌≤◌, Bool, true, false, cond, inl, inr, List, [], ◌∷◌, length, codes, subst, arith}
 use Rattle.std.proofs.lemmas.Bool.{lt-ltb}
 use Rattle.smv_ast.specs.declared.syntax.Expr.{Expr}
 use Rattle.smv_ast.specs.declared.program.Program.{Program}
 use Rattle.smv_meaning.specs.Value.{Name}
-use Rattle.smv_meaning.specs.Instances.{Entity, Variable, Inner, Defined, Formal, Entry, Instance, Main, Within, entries, called_at, module_named, module_at, inner_of, inner_instances, subtree, goes_deeper, depth_of, instances}
+use Rattle.smv_meaning.specs.Instances.{Entity, Variable, Inner, Defined, Formal, Instance, Main, Within, entries, called_at, module_named, module_at, inner_of, inner_instances, subtree, goes_deeper, depth_of, instances}
 use Rattle.smv_meaning.proofs.MemberLemmas.{In, from_flat}
 
 -- the rank of a module is above those of the modules whose instances it declares: so none is on a cycle

@@ -1,5 +1,6 @@
 -- The instance table while it is filled.
 use Rattle.std.proofs.Common.{◌≡◌, ℕ, zero, suc, ◌+◌, ◌<◌, ◌≤◌, Bool, true, false, List, [], ◌∷◌, ◌++◌, length, get_or, map, Option, Some, None, refl, sym, ap, ◌∙◌, subst, arith, length-append, append_assoc, ◌⊎◌, inl, inr, codes, nat_lt, cond}
+use Rattle.std.proofs.lemmas.Option.{slice_get_within}
 use Rattle.std.specs.Prelude.{slice_get, IfSome, find}
 use Rattle.std.specs.List.{fold}
 use Rattle.std.specs.Str.{bytes_eq}
@@ -58,11 +59,6 @@ pub get_append : {A : Type 0} (xs ys : List A) (k : ℕ) (a : A) → slice_get x
 get_append [] ys k a e = cc
 get_append (x ∷ xs) ys zero a e = e
 get_append (x ∷ xs) ys (suc k) a e = get_append xs ys k a e
-
-pub get_within : {A : Type 0} (xs : List A) (k : ℕ) (a : A) → slice_get xs k ≡ Some a → k < length xs
-get_within [] k a e = cc
-get_within (x ∷ xs) zero a e = omega arith
-get_within (x ∷ xs) (suc k) a e = omega (arith, get_within xs k a e)
 
 pub get_last : {A : Type 0} (xs : List A) (y : A) (k : ℕ) → k ≡ length xs → slice_get (xs ++ y ∷ []) k ≡ Some y
 get_last [] y zero e = refl
@@ -212,7 +208,7 @@ binding_alone program rows r row name (Formal k) deeper right e d n =
   where
     further : (link : Option Link) → IfSome link (λ l. l.outer < r) → IfSome link (λ l. l.outer < length rows)
     further None g = tt
-    further (Some l) g = omega (arith, get_within rows r row e)
+    further (Some l) g = omega (arith, slice_get_within rows r row e)
 
 -- the slot of an entity that declares an instance, whose row is appended
 binding_deep : (program : Program) (rows : List Row) (r : ℕ) (child : Row) (link : Link) (name called : Name) (actuals : List Expr) (deeper : Bool) → r < length rows → goes_deeper program (nth_instance (row_instances rows) r) ≡ deeper →
@@ -243,7 +239,7 @@ outer_within program rows r row right e = further row.link (right r row e).outer
   where
     further : (link : Option Link) → IfSome link (λ l. l.outer < r) → IfSome link (λ l. l.outer < length rows)
     further None g = tt
-    further (Some l) g = omega (arith, get_within rows r row e)
+    further (Some l) g = omega (arith, slice_get_within rows r row e)
 
 pub deeper_is : (program : Program) (rows : List Row) (r : ℕ) (row : Row) (n : ℕ) → AreRowsOfProgram program rows → slice_get rows r ≡ Some row → n ≡ length program.modules → goes_deeper program (nth_instance (row_instances rows) r) ≡ nat_lt row.depth n
 deeper_is program rows r row n right e h = ap (λ (k : ℕ). nat_lt k (length program.modules)) (sym (right r row e).depth) ∙ ap (nat_lt row.depth) (sym h)
@@ -262,7 +258,7 @@ pub child_new : (program : Program) (rows : List Row) (r : ℕ) (row child : Row
 child_new program rows r row child link name right e c o d n g = record {
   names = n ∙ (ap (entries_in (scopes_of program)) g ∙ (entries_named_is program.modules link.called.now ∙ ap (λ p. entries (module_at program p)) (sym at)));
   depth = d ∙ (deep (right r row e).depth ∙ ap depth_of (sym at));
-  outer = rw (c, o) (get_within rows r row e);
+  outer = rw (c, o) (slice_get_within rows r row e);
 }
   where
     at : instance_of_link (row_instances rows) child.link ≡ Within (nth_instance (row_instances rows) r) link.name.now link.called.now
@@ -352,12 +348,12 @@ slots_more program rows rows' firsts slots slots' row n x s g here right r first
 
     old : r < length firsts → slice_get firsts r ≡ Some first → AreSlotsUpTo program rows' slots' r first (entries_at rows' r) (length (entries_at rows' r))
     old h f =
-        let w : r < length rows = omega (arith, get_within rows (length firsts) row g) in
+        let w : r < length rows = omega (arith, slice_get_within rows (length firsts) row g) in
         subst (λ (es : List Entry). AreSlotsUpTo program rows' slots' r first es (length es)) (sym (names r w)) (upto_kept program rows rows' slots slots' s.0 r first (entries_at rows r) (length (entries_at rows r)) x s.1 w (right r first f))
 
     here' : AreSlotsUpTo program rows' slots' (length firsts) (length slots) (entries_at rows' (length firsts)) (length (entries_at rows' (length firsts)))
     here' =
-        subst (λ (es : List Entry). AreSlotsUpTo program rows' slots' (length firsts) (length slots) es (length es)) (sym (names (length firsts) (get_within rows (length firsts) row g) ∙ entries_at_get rows (length firsts) row g))
+        subst (λ (es : List Entry). AreSlotsUpTo program rows' slots' (length firsts) (length slots) es (length es)) (sym (names (length firsts) (slice_get_within rows (length firsts) row g) ∙ entries_at_get rows (length firsts) row g))
         here
 
     new : r ≡ length firsts → length slots ≡ first → AreSlotsUpTo program rows' slots' r first (entries_at rows' r) (length (entries_at rows' r))

@@ -1,5 +1,5 @@
 -- Items at small examples: their order, their expressions, and what each role asks of states.
-use Rattle.std.proofs.Common.{◌≡◌, Bool, true, List, [], ◌∷◌, Some, None, refl}
+use Rattle.std.proofs.Common.{◌≡◌, true, [], ◌∷◌, Some, None, refl}
 use Rattle.smv_ast.specs.declared.syntax.Span.{Span}
 use Rattle.smv_ast.specs.declared.syntax.Expr.{Expr}
 use Rattle.smv_ast.specs.declared.program.Declared.TheVariants.{Plain, Instance as Submodule}
@@ -13,7 +13,7 @@ use Rattle.smv_ast.specs.declared.program.Section.TheVariants as section
 use Rattle.smv_meaning.specs.declared.items.Role.TheVariants as role
 use Rattle.smv_meaning.specs.Value.{Name}
 use Rattle.smv_meaning.specs.Instances.{Instance}
-use Rattle.smv_meaning.specs.Items.{Item, Declares, Assigns, Defines, Constrains, exprs_of, all_items}
+use Rattle.smv_meaning.specs.Items.{Declares, Assigns, Defines, Constrains, exprs_of, all_items}
 use Rattle.smv_meaning.specs.Values.{State}
 use Rattle.smv_meaning.specs.Runs.{begins, stays, steps, meets, is_true_in, is_assigned}
 

@@ -1,5 +1,6 @@
 pub mod FaultLemmas
 pub mod NamesLemmas
+pub mod ModuleNumberLemmas
 pub mod NameSetLemmas
 pub mod SymbolLemmas
 pub mod WrittenLemmas
@@ -15,7 +16,6 @@ pub mod MentionLemmas
 pub mod FirstFault
 pub mod MetItemLemmas
 pub mod ItemIndexLemmas
-pub mod SectionLemmas
 pub mod RunLemmas
 pub mod RunLaw
 pub mod BindingLemmas

@@ -1,10 +1,11 @@
 -- Sets of names, after an insertion.
-use Rattle.std.proofs.Common.{◌≡◌, List, Bool, true, false, ◌||◌, cond, refl, sym, ap, ◌∙◌, ◌++◌}
+use Rattle.std.proofs.Common.{◌≡◌, List, [], ◌∷◌, Bool, true, false, ◌||◌, cond, refl, sym, ap, ◌∙◌, ◌++◌}
 use Rattle.std.specs.Str.{bytes_eq}
 use Rattle.std.specs.HashSet.{Updates, IsEmpty}
 use Rattle.std.specs.List.{list_any}
 use Rattle.std.proofs.lemmas.Slice.Eq.{bytes_eq-Decides}
 use Rattle.std.proofs.lemmas.Bool.Decides.{same_from_decides}
+use Rattle.std.proofs.Math.Bool.{or_assoc, or-false}
 use mathlib.Core.Path.{fun_ext}
 use denote.Ref.{Bor}
 use Rattle.smv_meaning.specs.Value.{Name}
@@ -14,7 +15,7 @@ use Rattle.smv_meaning.specs.NameSets.{NameSet, in_set, no_name, and_name, and_n
 pub bytes_eq-swapped : (a b : Name) → bytes_eq a b ≡ bytes_eq b a
 bytes_eq-swapped a b = same_from_decides (bytes_eq a b) (bytes_eq b a) (bytes_eq-Decides a b) ((λ e. sym ((bytes_eq-Decides b a).0 e)), (λ e. (bytes_eq-Decides b a).1 (sym e)))
 
-either_way : (b c x : Bool) → b ≡ c → cond b true x ≡ (x || c)
+pub either_way : (b c x : Bool) → b ≡ c → cond b true x ≡ (x || c)
 either_way true c true e = refl
 either_way true c false e = e
 either_way false c true e = refl
@@ -31,3 +32,10 @@ in_set_empty s h = fun_ext (λ name. ap (λ (ks : List (Bor Name)). list_any (λ
 -- a set with the names of two lists
 pub and_names_append : (seen : Name → Bool) (xs ys : List Name) → and_names seen (xs ++ ys) ≡ and_names (and_names seen xs) ys
 and_names_append seen xs ys = fold-append and_name seen xs ys
+
+-- the names of a list are in the set exactly where one of them is the name
+pub among : (names : List Name) (seen : Name → Bool) (name : Name) → and_names seen names name ≡ (seen name || list_any (λ n. bytes_eq n name) names)
+among [] seen name = sym (or-false (seen name))
+among (n ∷ names) seen name =
+    among names (and_name seen n) name ∙ (or_assoc (seen name) (bytes_eq name n) (list_any (λ n. bytes_eq n name) names)
+    ∙ ap (λ b. seen name || (b || list_any (λ n. bytes_eq n name) names)) (bytes_eq-swapped name n))

@@ -1,5 +1,6 @@
 -- The definitions by number agree with those by instance, over a correct instance table.
 use Rattle.std.proofs.Common.{◌≡◌, ℕ, zero, suc, ◌+◌, ◌<◌, Bool, true, false, List, [], ◌∷◌, ◌++◌, length, Option, Some, None, refl, sym, ap, ◌∙◌, subst, arith, cond}
+use Rattle.std.proofs.lemmas.Option.{slice_get_within}
 use Rattle.std.specs.Prelude.{slice_get, find}
 use Rattle.std.specs.Option.{option_map}
 use Rattle.std.specs.Str.{bytes_eq}
@@ -22,7 +23,7 @@ use Rattle.smv_meaning.specs.Values.{State, Valuation, symbol_of, value_at_path,
 use Rattle.smv_meaning.specs.InstanceTable.{entries_at, nth_instance, row_instances, renumbered, InRange, binding_view, IsTableOf}
 use Rattle.smv_meaning.specs.Slots.{slot_of, name_of_slot, binding_in, by_slot, HasSlots}
 use Rattle.smv_meaning.specs.Valuation.{AreLinked, variable_at, IsValuationTable, row_environment}
-use Rattle.smv_meaning.proofs.InstanceTableLemmas.{get_within, row_at, names_at}
+use Rattle.smv_meaning.proofs.InstanceTableLemmas.{row_at, names_at}
 
 pub get_at : {A : Type 0} (xs : List A) (k : ℕ) → k < length xs → (a : A) × (slice_get xs k ≡ Some a)
 get_at [] k h = absurd (omega arith)
@@ -105,7 +106,7 @@ module _ (program : Program) (table : InstanceTable) (right : IsTableOf program 
       with_instance first f None g h = cc
       with_instance first f (Some j) g h =
           let e = found (entries_at table.rows qualified.instance) qualified.name j g in
-          let s = right.slots qualified.instance first f j e.entry (get_within (entries_at table.rows qualified.instance) j e.entry e.at) e.at in
+          let s = right.slots qualified.instance first f j e.entry (slice_get_within (entries_at table.rows qualified.instance) j e.entry e.at) e.at in
           let n : first + j ≡ k = cc in
           record {
             slot = s.0;

@@ -1,5 +1,6 @@
 -- The instances in their order, by number.
 use Rattle.std.proofs.Common.{◌≡◌, ℕ, zero, suc, ◌+◌, ◌<◌, ◌≤◌, Bool, true, false, List, [], ◌∷◌, ◌++◌, length, map, drop, get_or, Option, Some, None, refl, sym, ap, ◌∙◌, subst, arith, append_assoc, if◌then◌else◌}
+use Rattle.std.proofs.lemmas.Option.{slice_get_within}
 use Rattle.std.specs.Prelude.{slice_get, All}
 use Rattle.std.specs.List.{flat_map}
 use Rattle.std.proofs.lemmas.Grind.{flat_map-append}
@@ -16,7 +17,7 @@ use Rattle.smv_meaning.specs.Paths.{Binding, IsVariable, IsInstance, IsDefine, I
 use Rattle.smv_meaning.specs.Instances.{Entity, Variable, Inner, Defined, Formal, Entry, Instance, Main, Within, entries, module_at, entity_at, inner_of, subtree, goes_deeper, formal_at, binding_in, actuals_of}
 use Rattle.smv_meaning.specs.InstanceTable.{row_names, entries_at, renumbered, InRange, binding_view}
 use Rattle.smv_meaning.specs.Checking.{IsTableOfProgram, instance_at, slot_in, declared_instance, inner_slot, AreRows, waiting_at, waiting_instances, AreWaiting}
-use Rattle.smv_meaning.proofs.InstanceTableLemmas.{get_within, names_at, entries_at_index}
+use Rattle.smv_meaning.proofs.InstanceTableLemmas.{names_at, entries_at_index}
 use Rattle.smv_meaning.proofs.NumberLemmas.{get_at}
 
 pub flat_next : {A B : Type 0} (G : A → List B) (xs : List A) (k : ℕ) (x : A) → slice_get xs k ≡ Some x → flat_map G (drop k xs) ≡ G x ++ flat_map G (drop (k + 1) xs)
@@ -75,7 +76,7 @@ module _ (program : Program) (table : InstanceTable) (right : IsTableOfProgram p
       let f = get_at table.firsts row (first_within right.count) in
       let same : entries_at table.rows row ≡ names = names_at program table.rows row right.rows within in
       let at' : slice_get (entries_at table.rows row) k ≡ Some e = ap (λ (es : List Entry). slice_get es k) same ∙ at in
-      let s = right.slots row f.0 f.1 k e (get_within (entries_at table.rows row) k e at') at' in
+      let s = right.slots row f.0 f.1 k e (slice_get_within (entries_at table.rows row) k e at') at' in
       let slot : slot_in table row k ≡ Some s.0 = ap (λ (o : Option ℕ). and_then o (λ first. slice_get table.slots (first + k))) f.1 ∙ s.1 in
       record {
         inner = ap (λ (o : Option Slot). map (instance_at table) (inner_slot o)) slot ∙ (inner_placed (instance_at table) (binding_view s.0.binding) ∙ (ap declared_instance s.2.binding ∙ sym (inner_of_is program (instance_at table row) e.name e.entity)));

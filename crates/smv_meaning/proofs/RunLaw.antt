@@ -1,5 +1,6 @@
 -- The check of a list of states answers Run exactly where they are a run.
 use Rattle.std.proofs.Common.{◌≡◌, ◌↔◌, ℕ, suc, ◌<◌, Bool, true, false, ◌&&◌, List, [], ◌∷◌, length, map, Option, Some, None, is_none, All, refl, sym, ap, ◌∙◌, arith}
+use Rattle.std.proofs.lemmas.Bool.{and_parts}
 use Rattle.std.specs.List.{list_all}
 use Rattle.std.specs.Cmp.Derive.{both_true}
 use Rattle.std.proofs.lemmas.List.Elements.{All-cons}
@@ -15,10 +16,6 @@ use Rattle.smv_meaning.specs.Runs.{begins, stays, steps, each_item, meets, unles
 use Rattle.smv_meaning.proofs.StateLemmas.{exact_state}
 
 -- ---- tests on lists
-
-both_parts : (a b : Bool) → (a && b) ≡ true → (a ≡ true) × (b ≡ true)
-both_parts true b e = (refl, e)
-both_parts false b e = cc
 
 in_pairs : (a b c d : Bool) → ((a && b) && (c && d)) ≡ ((a && c) && (b && d))
 in_pairs true true c d = refl
@@ -59,7 +56,7 @@ answer_with step tail o = elim o as (λ o. RunAnswer) [ Some at ↦ answer.Break
 -- Run
 first_passes : {S P : Type 0} (step : ℕ) (tail : RunAnswer) (o : Option Span) (a b : Bool) → is_none o ≡ (a && b) → S → ((tail ≡ answer.Run) ↔ P) → (answer_with step tail o ≡ answer.Run) ↔ (S × (a ≡ true) × (b ≡ true) × P)
 first_passes step tail None a b none s law =
-    let parts = both_parts a b (sym none) in
+    let parts = and_parts a b (sym none) in
     (λ e. (s, parts.0, parts.1, law.0 e), λ h. law.1 h.3)
 first_passes step tail (Some at) a b none s law = (λ e. cc, λ h. let both : (a && b) ≡ true = both_true h.1 h.2 in cc)
 

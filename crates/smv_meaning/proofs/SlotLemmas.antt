@@ -2,7 +2,7 @@
 use Rattle.std.proofs.Common.{◌≡◌, ℕ, zero, suc, drop, get_or, ◌+◌, ◌<◌, ◌≤◌, List, [], ◌∷◌, length, Option, Some, None, refl, sym, ap, ◌∙◌, arith}
 use Rattle.std.specs.Prelude.{slice_get}
 use Rattle.std.specs.Option.{option_map}
-use Rattle.std.proofs.lemmas.Option.{slice_get_past}
+use Rattle.std.proofs.lemmas.Option.{slice_get_past, slice_get_within}
 use mathlib.Core.Path.{fun_ext}
 use Rattle.smv_ast.specs.declared.program.Program.{Program}
 use Rattle.smv_meaning.specs.declared.table.InstanceTable.{InstanceTable}
@@ -17,7 +17,7 @@ use Rattle.smv_meaning.specs.InstanceTable.{row_names, entries_at, binding_view}
 use Rattle.smv_meaning.specs.Slots.{slot_of, name_of_slot, binding_in, by_slot, TransferFunction, name_step, slot_step, HasSlots, alias_slots, AreAliases, resolve_slot}
 use Rattle.smv_meaning.specs.Valuation.{variable_at, valuation_slots, IsValuationTable}
 use Rattle.smv_meaning.specs.Values.{State, symbol_of, value_of_binding}
-use Rattle.smv_meaning.proofs.InstanceTableLemmas.{entries_at_get, get_within}
+use Rattle.smv_meaning.proofs.InstanceTableLemmas.{entries_at_get}
 
 -- ---- slots and names
 
@@ -66,7 +66,7 @@ slot_within table instance first k name row has f r p =
     ap (λ (x : Option ℕ). and_then x (λ first. option_map (λ k. first + k) (first_index name (entries_at table.rows instance)))) f
     ∙ ap (option_map (λ k. first + k)) (ap (first_index name) (entries_at_get table.rows instance row r) ∙ p) in
     let s = the_slot table qualified (first + k) has is in
-    get_within table.slots (first + k) s.0 s.1
+    slice_get_within table.slots (first + k) s.0 s.1
 
 pub alias_slots_past : (table : InstanceTable) (s : ℕ → Option ℕ) (k : ℕ) → length table.slots ≤ k → alias_slots table s k ≡ None
 alias_slots_past table = slot_step_past table (λ alias qualified. alias_of_binding alias)

@@ -1,5 +1,5 @@
 -- Values and answers depend on the values that a state gives the program's variables alone.
-use Rattle.std.proofs.Common.{◌≡◌, ℕ, zero, suc, inl, inr, Bool, true, false, ◌&&◌, ◌||◌, List, [], ◌∷◌, ◌++◌, map, length, Option, Some, None, codes, refl, sym, ap, ◌∙◌, subst, cond, arith}
+use Rattle.std.proofs.Common.{◌≡◌, ℕ, zero, suc, inl, inr, Bool, true, false, ◌&&◌, ◌||◌, List, [], ◌∷◌, map, length, Option, Some, None, codes, refl, sym, ap, ◌∙◌, subst, cond, arith}
 use Rattle.std.specs.Prelude.{find}
 use Rattle.std.specs.List.{list_any, Contains}
 use Rattle.std.specs.Str.{bytes_eq}
@@ -18,10 +18,10 @@ use Rattle.fixpoint.specs.Fixpoints.{known, most}
 use Rattle.smv_meaning.specs.Value.{Name, and_then, is_true}
 use Rattle.smv_meaning.specs.Paths.{QualifiedName, Binding, IsVariable, IsInstance, IsDefine, IsFormal, IsNothing, resolve}
 use Rattle.smv_meaning.specs.Denotations.{Environment, denotation_of}
-use Rattle.smv_meaning.specs.Instances.{Instance, Main, binding_at, subtree, instances, instance_text, module_at, path_of}
-use Rattle.smv_meaning.specs.Items.{Item, Declares, Assigns, Defines, Constrains, items, at_of}
+use Rattle.smv_meaning.specs.Instances.{Instance, Main, binding_at, subtree, instances, instance_text, module_at}
+use Rattle.smv_meaning.specs.Items.{Item, Assigns, Constrains, items, at_of}
 use Rattle.smv_meaning.specs.Values.{State, Valuation, symbol_of, value_at_path, environment_by, read_by, value_of_binding, valuation_step, variable_in, values_in, environment_in, value_in, allows_in}
-use Rattle.smv_meaning.specs.Runs.{VariableAt, variables, same_path, is_variable, IsState, IsExactState, written_state, state_of, surely, is_assigned, is_true_in, begins, stays, steps, meets, unless_met, or_else, first_fault, broken_at, first_broken, answer_from, answer_of, HasInstance, instance_named, holds_at}
+use Rattle.smv_meaning.specs.Runs.{VariableAt, variables, same_path, IsState, IsExactState, written_state, state_of, surely, is_assigned, is_true_in, begins, stays, steps, meets, unless_met, or_else, first_fault, broken_at, first_broken, answer_from, answer_of, HasInstance, instance_named, holds_at}
 use Rattle.smv_meaning.specs.RunCheck.{written_answer, held_at}
 use Rattle.smv_meaning.proofs.MemberLemmas.{In, in_of, from_map}
 use Rattle.smv_meaning.proofs.BindingLemmas.{bound_variable, formal_there, resolves_in}

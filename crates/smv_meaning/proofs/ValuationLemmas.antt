@@ -1,5 +1,6 @@
 -- Values of names by number and by instance.
-use Rattle.std.proofs.Common.{◌≡◌, ℕ, zero, suc, ◌+◌, ◌<◌, ◌≤◌, List, [], ◌∷◌, ◌++◌, length, get_or, Option, Some, None, refl, sym, ap, ◌∙◌, subst, arith, append_assoc, ◌⊎◌, inl, inr, codes}
+use Rattle.std.proofs.Common.{◌≡◌, ℕ, zero, suc, ◌+◌, ◌<◌, ◌≤◌, List, [], ◌∷◌, ◌++◌, length, get_or, Option, Some, None, refl, sym, ap, ◌∙◌, subst, arith, append_assoc, inl, inr, codes}
+use Rattle.std.proofs.lemmas.Option.{slice_get_within}
 use Rattle.std.specs.Prelude.{slice_get, slice_index_or, IfSome}
 use Rattle.std.specs.Option.{option_map}
 use Rattle.std.proofs.lemmas.List.{append-nil}
@@ -12,7 +13,7 @@ use Rattle.smv_meaning.specs.Runs.{path_text}
 use Rattle.smv_meaning.specs.InstanceTable.{nth_instance, instance_of_link, row_instances}
 use Rattle.smv_meaning.specs.Valuation.{AreLinked, text_below, link_of, row_text, ArePathTexts, SpellsNames, name_text}
 use Rattle.smv_meaning.specs.declared.table.InstanceTable.{InstanceTable}
-use Rattle.smv_meaning.proofs.InstanceTableLemmas.{get_within, get_append, get_last, row_at}
+use Rattle.smv_meaning.proofs.InstanceTableLemmas.{below_or, get_append, get_last, row_at}
 
 -- ---- texts of paths
 
@@ -47,10 +48,10 @@ index_get (y ∷ ys) zero x e = cc
 index_get (y ∷ ys) (suc k) x e = index_get ys k x e
 
 -- the texts of the first so many instances
-abbrev pub ReportsFirst : List Row → List (List ℕ) → ℕ → Type 0
-ReportsFirst rows texts n = (k : ℕ) (row : Row) → k < n → slice_get rows k ≡ Some row → slice_get texts k ≡ Some (path_text (path_of (nth_instance (row_instances rows) k)))
+abbrev pub FirstTexts : List Row → List (List ℕ) → ℕ → Type 0
+FirstTexts rows texts n = (k : ℕ) (row : Row) → k < n → slice_get rows k ≡ Some row → slice_get texts k ≡ Some (path_text (path_of (nth_instance (row_instances rows) k)))
 
-text_is : (rows : List Row) (texts : List (List ℕ)) (n : ℕ) (link : Option Link) → AreLinked rows → n ≤ length rows → IfSome link (λ l. l.outer < n) → ReportsFirst rows texts n → row_text rows texts link ≡ path_text (path_of (instance_of_link (row_instances rows) link))
+text_is : (rows : List Row) (texts : List (List ℕ)) (n : ℕ) (link : Option Link) → AreLinked rows → n ≤ length rows → IfSome link (λ l. l.outer < n) → FirstTexts rows texts n → row_text rows texts link ≡ path_text (path_of (instance_of_link (row_instances rows) link))
 text_is rows texts n None linked w h known_of = refl
 text_is rows texts n (Some link) linked w h known_of =
     let r = row_at rows link.outer (omega arith) in
@@ -58,21 +59,15 @@ text_is rows texts n (Some link) linked w h known_of =
     ∙ (ap (λ (o : Option Row). text_below (link_of o) (path_text (path_of (nth_instance (row_instances rows) link.outer))) link.name.now) r.1
     ∙ sym (below_is rows link.outer r.0 link.name.now linked r.1))
 
-below_or : (a b : ℕ) → a < b + 1 → (a < b) ⊎ (a ≡ b)
-below_or zero zero h = inr refl
-below_or zero (suc b) h = inl (omega arith)
-below_or (suc a) zero h = absurd (omega arith)
-below_or (suc a) (suc b) h = elim (below_or a b (omega arith)) [ inl g ↦ inl (omega arith) | inr g ↦ inr (ap suc g) ]
-
 -- one more text
-pub reports_more : (rows : List Row) (texts texts' : List (List ℕ)) (n : ℕ) (row : Row) (text : List ℕ) → AreLinked rows → slice_get rows n ≡ Some row → length texts ≡ n → text ≡ row_text rows texts row.link → texts' ≡ texts ++ text ∷ [] → ReportsFirst rows texts n → ReportsFirst rows texts' (n + 1)
+pub reports_more : (rows : List Row) (texts texts' : List (List ℕ)) (n : ℕ) (row : Row) (text : List ℕ) → AreLinked rows → slice_get rows n ≡ Some row → length texts ≡ n → text ≡ row_text rows texts row.link → texts' ≡ texts ++ text ∷ [] → FirstTexts rows texts n → FirstTexts rows texts' (n + 1)
 reports_more rows texts texts' n row text linked e l t p known_of k r below g = elim (below_or k n below) [ inl h ↦ old h | inr h ↦ new h ]
   where
     old : k < n → slice_get texts' k ≡ Some (path_text (path_of (nth_instance (row_instances rows) k)))
     old h = ap (λ (xs : List (List ℕ)). slice_get xs k) p ∙ get_append texts (text ∷ []) k _ (known_of k r h g)
 
     is : text ≡ path_text (path_of (nth_instance (row_instances rows) n))
-    is = t ∙ (text_is rows texts n row.link linked (omega (arith, get_within rows n row e)) (linked n row e).outer known_of ∙ ap (λ p. path_text (path_of p)) (sym (linked n row e).instance_at))
+    is = t ∙ (text_is rows texts n row.link linked (omega (arith, slice_get_within rows n row e)) (linked n row e).outer known_of ∙ ap (λ p. path_text (path_of p)) (sym (linked n row e).instance_at))
 
     new : k ≡ n → slice_get texts' k ≡ Some (path_text (path_of (nth_instance (row_instances rows) k)))
     new h = subst (λ (x : ℕ). slice_get texts' x ≡ Some (path_text (path_of (nth_instance (row_instances rows) x)))) (sym h) (ap (λ (xs : List (List ℕ)). slice_get xs n) p ∙ (get_last texts text n (sym l) ∙ ap Some is))

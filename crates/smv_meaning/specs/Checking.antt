@@ -57,9 +57,9 @@ AreWaiting table waiting = All (λ w. w.row < length table.rows) waiting
 
 -- the context has the instance table of its program
 abbrev pub IsContextOfProgram : RunContext → Type 0
-IsContextOfProgram context = IsTableOfProgram context.program.now context.table.now
+IsContextOfProgram context = IsTableOfProgram context.program.now context.table
 
 -- the table is the valuation of the written state
 abbrev pub IsValuationOf : RunContext → RunState → List (Option Value) → Type 0
-IsValuationOf context written solution = IsValuationTable context.program.now context.table.now
+IsValuationOf context written solution = IsValuationTable context.program.now context.table
     (written_state written) solution

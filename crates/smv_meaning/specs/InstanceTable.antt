@@ -1,5 +1,5 @@
 -- The instance table, and its correctness.
-use Rattle.std.specs.Prelude.{◌≡◌, ℕ, ◌+◌, ◌<◌, ◌≤◌, Bool, if◌then◌else◌, List, [], ◌∷◌, ◌++◌, length, Option, Some, None, slice_get, slice_index_or, IfSome}
+use Rattle.std.specs.Prelude.{◌≡◌, ℕ, ◌+◌, ◌<◌, ◌≤◌, Bool, if◌then◌else◌, List, [], ◌∷◌, ◌++◌, length, Option, Some, None, slice_get, slice_index_or, IfSome, codes}
 use Rattle.std.specs.List.{fold, flat_map}
 use Rattle.std.specs.Option.{option_copied}
 use Rattle.smv_ast.specs.declared.program.Program.{Program}
@@ -25,6 +25,11 @@ binding_view held.Nothing = IsNothing
 -- the instance of a number, in the order of the instances
 abbrev pub nth_instance : List Instance → ℕ → Instance
 nth_instance row_instances k = slice_index_or row_instances k Main
+
+-- the name of the module of an instance with this link
+abbrev pub called_of : Option Link → Name
+called_of None = codes "main"
+called_of (Some link) = link.called.now
 
 -- the instance of a row with this link, after these instances
 abbrev pub instance_of_link : List Instance → Option Link → Instance

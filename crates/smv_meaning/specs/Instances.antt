@@ -1,5 +1,5 @@
 -- The entities of a module, and the instances of a program with the bindings of their names.
-use Rattle.std.specs.Prelude.{ℕ, zero, suc, Bool, if◌then◌else◌, List, [], ◌∷◌, ◌++◌, length, nat_lt, map, Option, Some, None, codes, slice_get, find}
+use Rattle.std.specs.Prelude.{ℕ, zero, suc, Bool, if◌then◌else◌, List, [], ◌∷◌, ◌++◌, length, nat_lt, Option, Some, None, codes, slice_get, find}
 use Rattle.std.specs.List.{flat_map}
 use Rattle.std.specs.Str.{bytes_eq}
 use Rattle.smv_ast.specs.PrintedExpr.{joined}
@@ -7,13 +7,10 @@ use Rattle.smv_ast.specs.declared.syntax.Expr.{Expr}
 use Rattle.smv_ast.specs.declared.syntax.SmvType.{SmvType}
 use Rattle.smv_ast.specs.declared.program.Declared.{Declared}
 use Rattle.smv_ast.specs.declared.program.Declared.TheVariants.{Plain, Instance as Submodule}
-use Rattle.smv_ast.specs.declared.program.Declaration.{Declaration}
-use Rattle.smv_ast.specs.declared.program.Definition.{Definition}
-use Rattle.smv_ast.specs.declared.program.Section.{Section}
-use Rattle.smv_ast.specs.declared.program.Section.TheVariants as section
 use Rattle.smv_ast.specs.declared.program.Module.{Module}
 use Rattle.smv_ast.specs.declared.program.Program.{Program}
 use Rattle.smv_meaning.specs.Value.{Name, and_then}
+use Rattle.smv_meaning.specs.Items.{Item, Declares, Defines, items}
 use Rattle.smv_meaning.specs.Paths.{QualifiedName, Binding, IsVariable, IsInstance, IsDefine, IsFormal, IsNothing}
 
 -- ---- the names of a module
@@ -36,29 +33,21 @@ abbrev pub entity_of : Declared → Entity
 entity_of (Plain type) = Variable type
 entity_of (Submodule called actuals) = Inner called actuals
 
--- the entry of a declaration
-abbrev pub declaration_entry : Declaration → Entry
-declaration_entry d = record { name = d.name; entity = entity_of d.what }
-
--- the entry of a definition
-abbrev pub definition_entry : Definition → Entry
-definition_entry d = record { name = d.name; entity = Defined d.right }
-
--- the names that a section declares, in the order of the text
-abbrev pub section_entries : Section → List Entry
-section_entries (section.Vars declarations) = map declaration_entry declarations
-section_entries (section.Defines definitions) = map definition_entry definitions
-section_entries s = []
+-- the entry of an item, if it declares a name
+abbrev pub item_entries : Item → List Entry
+item_entries (Declares name what at) = record { name = name; entity = entity_of what } ∷ []
+item_entries (Defines name right at) = record { name = name; entity = Defined right } ∷ []
+item_entries item = []
 
 -- the formals, numbered in their order
 abbrev pub formals_from : ℕ → List Name → List Entry
 formals_from k [] = []
 formals_from k (name ∷ more) = record { name = name; entity = Formal k } ∷ formals_from (suc k) more
 
--- the names that a module declares: its formals, then the names of its sections, in the order of
--- the text
+-- the names that a module declares: its formals, then the names of its items, in the order of the
+-- text
 abbrev pub entries : Module → List Entry
-entries m = formals_from 0 m.formals ++ flat_map section_entries m.sections
+entries m = formals_from 0 m.formals ++ flat_map item_entries (items m)
 
 -- the entity of a name in a module; of two equal names the first takes precedence
 abbrev pub lookup : Module → Name → Option Entity

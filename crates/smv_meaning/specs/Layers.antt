@@ -1,7 +1,7 @@
 -- One lemma for each form of an expression: its denotation keeps 'where the first is defined, the second is defined and
 -- equal', whatever relation the environments of the two are in. That denotations are monotone, that they read mentioned paths
 -- alone, and that related expressions have related denotations all follow layer by layer.
-use Rattle.std.proofs.Common.{◌≡◌, ◌||◌, Bool, true, false, List, [], ◌∷◌, Option, Some, None, refl, ℤ}
+use Rattle.std.proofs.Common.{◌||◌, Bool, true, false, List, [], ◌∷◌, Option, Some, None, refl, ℤ}
 use Rattle.smv_ast.specs.declared.syntax.Op.{Op}
 use Rattle.smv_ast.specs.declared.syntax.Expr.{Expr-F}
 use Rattle.smv_ast.specs.declared.syntax.Choice.{Choice-F}

@@ -1,16 +1,18 @@
 pub mod Indices
+pub mod ModuleNumbers
 pub mod Scopes
 pub mod Value
 pub mod Paths
+pub mod Items
 pub mod Instances
 pub mod Known
 pub mod Denotations
+pub mod Symbols
 pub mod Values
 pub mod Mentions
 pub mod Faults
 pub mod Runs
 pub mod NameSets
-pub mod Symbols
 pub mod Written
 pub mod Entries
 pub mod InstanceTable
@@ -22,7 +24,5 @@ pub mod MentionedPaths
 pub mod StepMonotone
 pub mod Checking
 pub mod MetItems
-pub mod Items
 pub mod ItemIndex
 pub mod RunCheck
-pub mod Sections

@@ -1,5 +1,5 @@
 -- Functions of values that may be absent are monotone.
-use Rattle.std.proofs.Common.{◌≡◌, Option, Some, None, refl}
+use Rattle.std.proofs.Common.{Option, Some, None, refl}
 use Rattle.fixpoint.specs.OptionOrder.{Le}
 use Rattle.smv_meaning.specs.Value.{and_then, of_both}
 

@@ -5,12 +5,6 @@ use Rattle.std.specs.Prelude.{Bool, true, false, List, [], ◌∷◌, ◌++◌, 
 use Rattle.std.specs.List.{list_any}
 use Rattle.std.specs.Str.{bytes_eq}
 use Rattle.smv_ast.specs.declared.syntax.Expr.{Expr}
-use Rattle.smv_ast.specs.declared.syntax.SmvType.{SmvType}
-use Rattle.smv_ast.specs.declared.syntax.SmvType.TheVariants as type
-use Rattle.smv_ast.specs.declared.program.Declared.{Declared}
-use Rattle.smv_ast.specs.declared.program.Declared.TheVariants.{Plain}
-use Rattle.smv_ast.specs.declared.program.Section.{Section}
-use Rattle.smv_ast.specs.declared.program.Section.TheVariants as section
 use Rattle.smv_ast.specs.declared.program.Program.{Program}
 use Rattle.smv_meaning.specs.declared.value.Value.{Value}
 use Rattle.smv_meaning.specs.declared.value.Value.TheVariants.{Symbol}
@@ -18,6 +12,7 @@ use Rattle.smv_meaning.specs.Value.{Name, and_then}
 use Rattle.fixpoint.specs.Fixpoints.{fixpoint}
 use Rattle.smv_meaning.specs.Paths.{QualifiedName, Binding, IsVariable, IsDefine, IsFormal, resolve}
 use Rattle.smv_meaning.specs.Instances.{Instance, path_of, binding_at}
+use Rattle.smv_meaning.specs.Symbols.{symbols}
 use Rattle.smv_meaning.specs.Denotations.{Environment, denotation_of}
 
 -- a state: the value of each variable, by the variable's path from `main`
@@ -26,29 +21,9 @@ State = List Name → Option Value
 
 -- ---- symbols
 
--- whether a name is a symbol of a type
-abbrev pub type_names : SmvType → Name → Bool
-type_names (type.Symbols names) name = list_any (λ n. bytes_eq n name) names
-type_names t name = false
-
--- whether it is a symbol of the declared type
-abbrev pub declared_names : Declared → Name → Bool
-declared_names (Plain t) name = type_names t name
-declared_names d name = false
-
--- whether it is a symbol of a type of the section
-abbrev pub section_names : Section → Name → Bool
-section_names (section.Vars declarations) name = list_any (λ d. declared_names d.what name)
-    declarations
-section_names s name = false
-
--- whether it is a symbol of a type of one of the sections
-abbrev pub module_names : List Section → Name → Bool
-module_names sections name = list_any (λ s. section_names s name) sections
-
 -- whether a name is a symbol of a type of the program
 abbrev pub is_symbol : Program → Name → Bool
-is_symbol program name = list_any (λ m. module_names m.sections name) program.modules
+is_symbol program name = list_any (λ n. bytes_eq n name) (symbols program)
 
 -- a path of a single name that is a symbol denotes it
 abbrev pub symbol_of : Program → List Name → Option Value

@@ -92,6 +92,23 @@ fn unknown_on(
     None
 }
 
+/// The instance that an expression of an instance denotes, if it is a path to one, by the aliases
+/// known so far.
+pub fn aliased(
+    table: &InstanceTable,
+    solution: &[Option<usize>],
+    row: usize,
+    e: &Expr,
+) -> Option<usize>
+    requires { slots.HasSlots table.now }
+    ensures { result ≡ paths.aliased (slots.by_slot table.now (entry solution.now)) row e.now }
+{
+    match e {
+        Expr::Name(path) => walk(table, solution, row, path.names.as_slice()),
+        _ => None,
+    }
+}
+
 /// The instance that a binding is an alias of, by the aliases known so far.
 fn alias_of_binding(
     table: &InstanceTable,
@@ -104,12 +121,7 @@ fn alias_of_binding(
 {
     match binding {
         Binding::Instance(row) => Some(row),
-        Binding::Formal(outer, Expr::Name(path)) => walk(
-            table,
-            solution,
-            outer,
-            path.names.as_slice(),
-        ),
+        Binding::Formal(outer, actual) => aliased(table, solution, outer, actual),
         _ => None,
     }
 }

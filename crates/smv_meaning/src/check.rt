@@ -7,45 +7,39 @@ ghost use Rattle.smv_meaning.specs.Runs as spec;
 ghost use Rattle.smv_meaning.specs.Checking as checking;
 ghost use Rattle.smv_meaning.specs.MetItems as items;
 ghost use Rattle.smv_meaning.specs.RunCheck as check;
-ghost use Rattle.smv_meaning.specs.Scopes.{scope_view, scopes_of as scopes_of_program};
 ghost use Rattle.smv_meaning.specs.ItemIndex.{IsItemIndex};
-ghost use Rattle.smv_meaning.specs.Slots as slots;
-ghost use Rattle.smv_meaning.specs.Valuation as valuation;
 
-use crate::aliases::aliases_of;
-use crate::instance_texts::path_texts;
 use crate::item_index::ItemsByName;
-use crate::met_items::{View, first_unmet};
+use crate::met_items::{RunInstance, ValuedState};
 use crate::order::order_of;
 use crate::run::{Run, RunAnswer, RunState};
-use crate::scope::{Scope, scopes_of};
-use crate::symbols::symbols_of;
-use crate::table::{InstanceTable, instance_table};
-use crate::valuation::{RunContext, value_of_binding};
+use crate::scope::scopes_of;
+use crate::valuation::{RunContext, valuation_of};
 use crate::value::Value;
-use smv_ast::{List, NoMemory, Program, Span, Text};
+use smv_ast::{List, NoMemory, Program, Span};
 use std::alloc::Global;
 
 /// The first item that is not met in a state, given the state before it, if there is one.
 fn first_broken<'t>(
     alloc: Global,
-    context: &'t RunContext<'t>,
+    context: &'t RunContext<'t, 't>,
     index: &ItemsByName,
     order: &[usize],
-    before: Option<View<'t>>,
-    now: View<'t>,
+    before: Option<ValuedState<'t>>,
+    now: ValuedState<'t>,
 ) -> Result<Option<Span>, NoMemory>
     requires right { checking.IsContextOfProgram context.now }
     requires index { IsItemIndex context.now.program.now index.now }
-    requires rows { checking.AreRows context.now.table.now order.now }
-    requires before { IfSome before (items.IsView context.now) }
-    requires now { items.IsView context.now now }
+    requires rows { checking.AreRows context.now.table order.now }
+    requires before { IfSome before (items.IsValued context.now) }
+    requires now { items.IsValued context.now now }
     ensures { IfOk result (λ b. b
         ≡ check.broken_in_order context.now before.entry now.entry order.now) }
 {
     for row in order {
-        let own = index.of_row(context.program, context.table, *row);
-        match first_unmet(alloc, context, *row, before, now, own)? {
+        let own = index.of_row(context.program, &context.table, *row);
+        let instance = RunInstance { context, row: *row };
+        match instance.first_unmet(alloc, before, now, own)? {
             Some(at) => return Ok(Some(at)),
             None => {}
         }
@@ -63,20 +57,24 @@ fn tables_of(
 {
     let mut tables = List::new(alloc);
     for state in states {
-        let solution = value_of_binding(alloc, context, state)?;
+        let solution = valuation_of(alloc, context, state)?;
         tables.push(solution)?;
     }
     Ok(tables)
 }
 
-/// The view of the state of a number: the state and its valuation.
-fn view_of<'t>(states: &'t [RunState], tables: &'t [List<Option<Value>>], k: usize) -> View<'t>
+/// The state of a number, with its valuation.
+fn valued_state<'t>(
+    states: &'t [RunState],
+    tables: &'t [List<Option<Value>>],
+    k: usize,
+) -> ValuedState<'t>
     requires states { k < length states.now }
     requires tables { k < length tables.now }
     ensures written { slice_get states.now k ≡ Some result.written.now }
     ensures solution { slice_get tables.now k ≡ Some result.solution.now }
 {
-    View {
+    ValuedState {
         written: &states[k],
         solution: tables[k].as_slice(),
     }
@@ -85,7 +83,7 @@ fn view_of<'t>(states: &'t [RunState], tables: &'t [List<Option<Value>>], k: usi
 /// Checks these states, given their valuations.
 fn run_answer<'t>(
     alloc: Global,
-    context: &'t RunContext<'t>,
+    context: &'t RunContext<'t, 't>,
     index: &ItemsByName,
     order: &[usize],
     states: &'t [RunState],
@@ -93,8 +91,8 @@ fn run_answer<'t>(
 ) -> Result<RunAnswer, NoMemory>
     requires right { checking.IsContextOfProgram context.now }
     requires index { IsItemIndex context.now.program.now index.now }
-    requires rows { checking.AreRows context.now.table.now order.now }
-    requires order { map (checking.instance_at context.now.table.now) order.now
+    requires rows { checking.AreRows context.now.table order.now }
+    requires order { map (checking.instance_at context.now.table) order.now
         ≡ instances.instances context.now.program.now }
     requires tables { check.AreTables context.now states.now tables.now }
     requires short { length states.now < 2 ^ 32 }
@@ -103,7 +101,7 @@ fn run_answer<'t>(
     let mut before = None;
     let mut step: u32 = 0;
     for k in 0..states.len() {
-        let now = view_of(states, tables, k);
+        let now = valued_state(states, tables, k);
         match first_broken(alloc, context, index, order, before, now)? {
             Some(item) => return Ok(RunAnswer::Breaks { step, item }),
             None => {}
@@ -115,17 +113,13 @@ fn run_answer<'t>(
 }
 
 /// Checks these states in a program, given its context.
-fn run_in<'t>(
-    alloc: Global,
-    context: &'t RunContext<'t>,
-    states: &'t [RunState],
-) -> Result<RunAnswer, NoMemory>
+fn run_in(alloc: Global, context: &RunContext, states: &[RunState]) -> Result<RunAnswer, NoMemory>
     requires right { checking.IsContextOfProgram context.now }
     requires short { length states.now < 2 ^ 32 }
     ensures { IfOk result (λ a. a ≡ check.written_answer context.now.program.now states.now) }
 {
     let index = ItemsByName::of_program(alloc, context.program)?;
-    let order = order_of(alloc, context.program, context.table)?;
+    let order = order_of(alloc, context.program, &context.table)?;
     let tables = tables_of(alloc, context, states)?;
     run_answer(
         alloc,
@@ -137,69 +131,18 @@ fn run_in<'t>(
     )
 }
 
-fn run_of_context(
+/// Checks these states in a program.
+fn run_of_program(
     alloc: Global,
     program: &Program,
-    table: &InstanceTable,
-    aliases: &[Option<usize>],
-    texts: &[Text],
     states: &[RunState],
 ) -> Result<RunAnswer, NoMemory>
-    requires right { checking.IsTableOfProgram program.now table.now }
-    requires has { slots.HasSlots table.now }
-    requires aliases { slots.AreAliases table.now aliases.now }
-    requires texts { valuation.SpellsNames table.now.rows texts.now }
-    requires short { length states.now < 2 ^ 32 }
+    requires { length states.now < 2 ^ 32 }
     ensures { IfOk result (λ a. a ≡ check.written_answer program.now states.now) }
 {
-    let symbols = symbols_of(alloc, program)?;
-    let context = RunContext {
-        program,
-        table,
-        aliases,
-        texts,
-        symbols: &symbols,
-    };
+    let scopes = scopes_of(alloc, program)?;
+    let context = RunContext::of_program(alloc, program, scopes.as_slice())?;
     run_in(alloc, &context, states)
-}
-
-fn run_of_table(
-    alloc: Global,
-    program: &Program,
-    table: &InstanceTable,
-    states: &[RunState],
-) -> Result<RunAnswer, NoMemory>
-    requires right { checking.IsTableOfProgram program.now table.now }
-    requires short { length states.now < 2 ^ 32 }
-    ensures { IfOk result (λ a. a ≡ check.written_answer program.now states.now) }
-{
-    let aliases = aliases_of(alloc, table)?;
-    let texts = path_texts(alloc, table.rows.as_slice())?;
-    run_of_context(
-        alloc,
-        program,
-        table,
-        aliases.as_slice(),
-        texts.as_slice(),
-        states,
-    )
-}
-
-fn run_of_scopes(
-    alloc: Global,
-    program: &Program,
-    scopes: &[Scope],
-    states: &[RunState],
-) -> Result<RunAnswer, NoMemory>
-    requires scopes { map scope_view scopes.now ≡ scopes_of_program program.now }
-    requires short { length states.now < 2 ^ 32 }
-    ensures { IfOk result (λ a. a ≡ check.written_answer program.now states.now) }
-{
-    match instance_table(alloc, program, scopes, usize::MAX)? {
-        Some(table) => run_of_table(alloc, program, &table, states),
-        // No table in memory has that many instances.
-        None => Err(NoMemory),
-    }
 }
 
 /// Whether a list of states is a run of a program; else the first item that breaks, in the order of
@@ -215,6 +158,5 @@ pub fn check_run(alloc: Global, program: &Program, run: &Run) -> Result<RunAnswe
         → (a ≡ RunAnswer.Run)
         ↔ spec.IsRun program.now (map (spec.state_of program.now) run.now.states)) }
 {
-    let scopes = scopes_of(alloc, program)?;
-    run_of_scopes(alloc, program, scopes.as_slice(), run.states.as_slice())
+    run_of_program(alloc, program, run.states.as_slice())
 }

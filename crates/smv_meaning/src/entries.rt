@@ -3,8 +3,10 @@
 ghost use Rattle.std.specs.Prelude.{◌≡◌, ◌++◌, IfOk, OnOk};
 ghost use Rattle.smv_meaning.specs.Instances as spec;
 ghost use Rattle.smv_meaning.specs.Entries.{entries_view};
+ghost use Rattle.smv_meaning.specs.Items.{item_view};
 
-use smv_ast::{Declared, Expr, List, Module, NoMemory, Section, SmvType, Text};
+use crate::items::{Item, items_of};
+use smv_ast::{Declared, Expr, List, Module, NoMemory, SmvType, Text};
 use std::alloc::Global;
 
 /// The entity that a name of a module denotes.
@@ -29,44 +31,38 @@ pub struct Entry<'a> {
     pub entity: Entity<'a>,
 }
 
-fn push_section<'a>(entries: &mut List<Entry<'a>>, section: &'a Section) -> Result<(), NoMemory>
+fn push_item<'a>(entries: &mut List<Entry<'a>>, item: Item<'a>) -> Result<(), NoMemory>
     ensures { OnOk result (entries_view entries.new ≡ entries_view entries.old
-        ++ spec.section_entries section.now) }
+        ++ spec.item_entries (item_view item.entry)) }
 {
-    match section {
-        Section::Vars(declarations) => {
-            for declaration in declarations.as_slice() {
-                let entity = match &declaration.what {
-                    Declared::Plain(type_) => Entity::Variable(type_),
-                    Declared::Instance { module, actuals } => Entity::Inner {
-                        called: module,
-                        actuals: actuals.as_slice(),
-                    },
-                };
-                entries.push(Entry {
-                    name: &declaration.name,
-                    entity,
-                })?;
-            }
-            Ok(())
+    match item {
+        Item::Declaration(declaration) => {
+            let entity = match &declaration.what {
+                Declared::Plain(type_) => Entity::Variable(type_),
+                Declared::Instance { module, actuals } => Entity::Inner {
+                    called: module,
+                    actuals: actuals.as_slice(),
+                },
+            };
+            entries.push(Entry {
+                name: &declaration.name,
+                entity,
+            })?;
         }
-        Section::Defines(definitions) => {
-            for definition in definitions.as_slice() {
-                entries.push(Entry {
-                    name: &definition.name,
-                    entity: Entity::Defined(&definition.right),
-                })?;
-            }
-            Ok(())
-        }
-        _ => Ok(()),
+        Item::Definition(definition) => entries.push(Entry {
+            name: &definition.name,
+            entity: Entity::Defined(&definition.right),
+        })?,
+        _ => {}
     }
+    Ok(())
 }
 
-/// The names of a module: its formals, then the names of its sections, in the order of the text.
+/// The names of a module: its formals, then the names of its items, in the order of the text.
 pub fn entries_of<'a>(alloc: Global, owner: &'a Module) -> Result<List<Entry<'a>>, NoMemory>
     ensures { IfOk result (λ entries. entries_view entries ≡ spec.entries owner.now) }
 {
+    let items = items_of(alloc, owner)?;
     let mut entries = List::new(alloc);
     let mut number = 0;
     for name in owner.formals.as_slice() {
@@ -76,8 +72,8 @@ pub fn entries_of<'a>(alloc: Global, owner: &'a Module) -> Result<List<Entry<'a>
         })?;
         number += 1;
     }
-    for section in owner.sections.as_slice() {
-        push_section(&mut entries, section)?;
+    for item in items.as_slice() {
+        push_item(&mut entries, *item)?;
     }
     Ok(entries)
 }

@@ -10,7 +10,7 @@ use smv_ast::{Boxed, Branch, Choice, Expr, NoMemory, Path};
 use std::alloc::Global;
 
 /// An environment: the values of paths.
-pub trait Reader {
+pub trait Environment {
     ghost use Rattle.std.specs.Prelude.{◌≡◌, IfOk};
     ghost use Rattle.smv_meaning.specs.Denotations.{Environment};
 
@@ -23,14 +23,14 @@ pub trait Reader {
 
 /// The value of an expression; `after` is the environment of the names under `next`.
 #[cycle(evaluation)]
-pub fn value<R: Reader>(
+pub fn value<E: Environment>(
     alloc: Global,
-    now: &R,
-    after: &R,
+    now: &E,
+    after: &E,
     e: &Expr,
 ) -> Result<Option<Value>, NoMemory>
     ensures { IfOk result (λ v. v
-        ≡ (spec.denotation_of e.now).value (R.reads now.now) (R.reads after.now)) }
+        ≡ (spec.denotation_of e.now).value (E.reads now.now) (E.reads after.now)) }
 {
     match e {
         Expr::True => Ok(Some(Value::Boolean(true))),
@@ -67,28 +67,28 @@ pub fn value<R: Reader>(
 }
 
 #[cycle(evaluation)]
-fn boxed_value<R: Reader>(
+fn boxed_value<E: Environment>(
     alloc: Global,
-    now: &R,
-    after: &R,
+    now: &E,
+    after: &E,
     e: &Boxed<Expr>,
 ) -> Result<Option<Value>, NoMemory>
     ensures { IfOk result (λ v. v
-        ≡ (spec.denotation_of e.now).value (R.reads now.now) (R.reads after.now)) }
+        ≡ (spec.denotation_of e.now).value (E.reads now.now) (E.reads after.now)) }
 {
     value(alloc, now, after, e.get())
 }
 
 /// Whether a condition is true.
 #[cycle(evaluation)]
-fn holds<R: Reader>(
+fn holds<E: Environment>(
     alloc: Global,
-    now: &R,
-    after: &R,
+    now: &E,
+    after: &E,
     cond: &Expr,
 ) -> Result<Option<bool>, NoMemory>
     ensures { IfOk result (λ b. b
-        ≡ and_then ((spec.denotation_of cond.now).value (R.reads now.now) (R.reads after.now))
+        ≡ and_then ((spec.denotation_of cond.now).value (E.reads now.now) (E.reads after.now))
         truth_of) }
 {
     match value(alloc, now, after, cond)? {
@@ -98,14 +98,14 @@ fn holds<R: Reader>(
 }
 
 #[cycle(evaluation)]
-fn case_value<R: Reader>(
+fn case_value<E: Environment>(
     alloc: Global,
-    now: &R,
-    after: &R,
+    now: &E,
+    after: &E,
     branches: &[Branch],
 ) -> Result<Option<Value>, NoMemory>
     ensures { IfOk result (λ v. v
-        ≡ spec.case_value (R.reads now.now) (R.reads after.now)
+        ≡ spec.case_value (E.reads now.now) (E.reads after.now)
         (map spec.branch_denotation_of branches.now)) }
 {
     let mut left = branches.len();
@@ -125,15 +125,15 @@ fn case_value<R: Reader>(
 
 /// Whether the choice has this value among its own; none where a name of it has no value.
 #[cycle(evaluation)]
-fn choice_allows<R: Reader>(
+fn choice_allows<E: Environment>(
     alloc: Global,
-    now: &R,
-    after: &R,
+    now: &E,
+    after: &E,
     choice: &Choice,
     v: &Value,
 ) -> Result<Option<bool>, NoMemory>
     ensures { IfOk result (λ b. b
-        ≡ spec.choice_allows choice.now (R.reads now.now) (R.reads after.now) v.now) }
+        ≡ spec.choice_allows choice.now (E.reads now.now) (E.reads after.now) v.now) }
 {
     match choice {
         Choice::Each(parts) => parts_allow(alloc, now, after, parts.as_slice(), v),
@@ -142,15 +142,15 @@ fn choice_allows<R: Reader>(
 }
 
 #[cycle(evaluation)]
-fn parts_allow<R: Reader>(
+fn parts_allow<E: Environment>(
     alloc: Global,
-    now: &R,
-    after: &R,
+    now: &E,
+    after: &E,
     parts: &[Expr],
     v: &Value,
 ) -> Result<Option<bool>, NoMemory>
     ensures { IfOk result (λ b. b
-        ≡ spec.parts_allow (R.reads now.now) (R.reads after.now) v.now
+        ≡ spec.parts_allow (E.reads now.now) (E.reads after.now) v.now
         (map spec.denotation_of parts.now)) }
 {
     let mut found = false;
@@ -165,15 +165,15 @@ fn parts_allow<R: Reader>(
 
 /// Whether an expression allows this value as a right side; none where a name of it has no value.
 #[cycle(evaluation)]
-pub fn allows<R: Reader>(
+pub fn allows<E: Environment>(
     alloc: Global,
-    now: &R,
-    after: &R,
+    now: &E,
+    after: &E,
     e: &Expr,
     v: &Value,
 ) -> Result<Option<bool>, NoMemory>
     ensures { IfOk result (λ b. b
-        ≡ (spec.denotation_of e.now).allows (R.reads now.now) (R.reads after.now) v.now) }
+        ≡ (spec.denotation_of e.now).allows (E.reads now.now) (E.reads after.now) v.now) }
 {
     match e {
         Expr::Pick(choice) => choice_allows(alloc, now, after, choice, v),
@@ -186,15 +186,15 @@ pub fn allows<R: Reader>(
 }
 
 #[cycle(evaluation)]
-fn case_allows<R: Reader>(
+fn case_allows<E: Environment>(
     alloc: Global,
-    now: &R,
-    after: &R,
+    now: &E,
+    after: &E,
     branches: &[Branch],
     v: &Value,
 ) -> Result<Option<bool>, NoMemory>
     ensures { IfOk result (λ b. b
-        ≡ spec.case_allows (R.reads now.now) (R.reads after.now)
+        ≡ spec.case_allows (E.reads now.now) (E.reads after.now)
         (map spec.branch_denotation_of branches.now) v.now) }
 {
     let mut left = branches.len();

@@ -1,10 +1,14 @@
 //! The texts of the paths of instances.
 
 ghost use Rattle.std.specs.Prelude.{◌≡◌, ◌<◌, ◌++◌, ◌∷◌, [], length, IfOk, IfSome, Some, slice_get, slice_index_or, codes};
+ghost use Rattle.smv_meaning.specs.Checking.{instance_at};
+ghost use Rattle.smv_meaning.specs.Instances as instances;
+ghost use Rattle.smv_meaning.specs.RunCheck.{text_of_instance};
 ghost use Rattle.smv_meaning.specs.Valuation as valuation;
 
-use crate::table::{Link, Row};
+use crate::table::{InstanceTable, Link, Row};
 use smv_ast::{List, NoMemory, Text};
+use sqlite_items::at;
 use std::alloc::Global;
 
 /// The text of a name of an instance with this link and text. Below `main` it is the name alone.
@@ -66,4 +70,56 @@ pub fn path_texts(alloc: Global, rows: &[Row]) -> Result<List<Text>, NoMemory>
         texts.push(text)?;
     }
     Ok(texts)
+}
+
+/// The text of the path of a name, if there is such an instance.
+pub fn name_text(
+    alloc: Global,
+    table: &InstanceTable,
+    texts: &[Text],
+    row: usize,
+    name: &str,
+) -> Result<Option<Text>, NoMemory>
+    requires { valuation.SpellsNames table.now.rows texts.now }
+    ensures { IfOk result (λ t. t
+        ≡ valuation.name_text table.now (record { instance = row; name = name.now })) }
+{
+    let Some(found) = at(table.rows.as_slice(), row).copied() else {
+        return Ok(None);
+    };
+    match at(texts, row) {
+        Some(text) => Ok(Some(text_below(alloc, found.link, text.as_str(), name)?)),
+        None => Ok(None),
+    }
+}
+
+/// The text of an instance with this link, given the text of its path.
+fn linked_text(alloc: Global, link: Option<Link>, path: &str) -> Result<Text, NoMemory>
+    ensures { IfOk result (λ t. t ≡ text_of_instance link.entry path.now) }
+{
+    if link.is_none() {
+        return Text::from_str(alloc, "main");
+    }
+    let mut text = String::from_str(alloc, "main")?;
+    text.push_str(".")?;
+    text.push_str(path)?;
+    Text::from_str(alloc, text.as_str())
+}
+
+/// The text of the instance of a row.
+pub fn instance_text(
+    alloc: Global,
+    table: &InstanceTable,
+    texts: &[Text],
+    row: usize,
+) -> Result<Text, NoMemory>
+    requires row { row < length table.now.rows }
+    requires linked { valuation.AreLinked table.now.rows }
+    requires texts { valuation.ArePathTexts table.now.rows texts.now }
+    ensures { IfOk result (λ t. t ≡ instances.instance_text (instance_at table.now row)) }
+{
+    let rows = table.rows.as_slice();
+    let link = rows[row].link;
+    let path = texts[row].as_str();
+    linked_text(alloc, link, path)
 }

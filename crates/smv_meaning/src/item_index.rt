@@ -1,15 +1,14 @@
 //! The items of the modules of a program, looked up by name.
 
-ghost use Rattle.std.specs.Prelude.{◌≡◌, ◌<◌, ℕ, List, [], IfOk, OnOk, Some, length, map, slice_get, if◌then◌else◌};
+ghost use Rattle.std.specs.Prelude.{◌≡◌, ◌<◌, [], IfOk, length, map};
 ghost use Rattle.std.specs.Option.{option_copied};
-ghost use Rattle.std.specs.Str.{bytes_eq};
 ghost use Rattle.smv_meaning.specs.Checking as checking;
-ghost use Rattle.smv_meaning.specs.Indices.{number_held};
 ghost use Rattle.smv_meaning.specs.Items.{items as items_of_module, items_view};
 ghost use Rattle.smv_meaning.specs.ItemIndex as spec;
 
 use crate::items::{Item, items_of};
-use crate::table::{InstanceTable, Link};
+use crate::module_numbers::numbers_of;
+use crate::table::{InstanceTable, called_of};
 use smv_ast::{List, Module, NoMemory, Program};
 use sqlite_items::at;
 use std::alloc::Global;
@@ -27,37 +26,6 @@ pub struct ModuleItems<'p> {
 pub struct ItemsByName<'p> {
     lists: List<ModuleItems<'p>>,
     numbers: HashMap<&'p str, usize>,
-}
-
-/// Maps the name of a module to its number.
-fn put<'p>(
-    numbers: &mut HashMap<&'p str, usize>,
-    modules: &[Module],
-    k: usize,
-    owner: &'p Module,
-) -> Result<(), NoMemory>
-    requires { slice_get modules.now k ≡ Some owner.now }
-    ensures { OnOk result ((other : List ℕ)
-        → spec.module_numbered modules.now (number_held numbers.new other)
-        ≡ (if bytes_eq owner.now.name other then Some owner.now else
-        spec.module_numbered modules.now (number_held numbers.old other))) }
-{
-    numbers.insert(owner.name.as_str(), k)?;
-    Ok(())
-}
-
-/// The number of the first module of each name.
-fn numbers_of<'p>(alloc: Global, modules: &'p [Module]) -> Result<HashMap<&'p str, usize>, NoMemory>
-    ensures { IfOk result (spec.AreModuleNumbers modules.now) }
-{
-    let mut numbers = HashMap::new(alloc);
-    let mut left = modules.len();
-    // The first module of a name counts, so it is put in last.
-    while left > 0 {
-        left -= 1;
-        put(&mut numbers, modules, left, &modules[left])?;
-    }
-    Ok(numbers)
 }
 
 /// The items of each module.
@@ -94,7 +62,7 @@ impl<'p> ItemsByName<'p> {
         ensures { IfOk result (spec.IsItemIndex program.now) }
     {
         let lists = lists_of(alloc, program.modules.as_slice())?;
-        let numbers = numbers_of(alloc, program.modules.as_slice())?;
+        let numbers = numbers_of(alloc, program)?;
         Ok(ItemsByName { lists, numbers })
     }
 
@@ -107,16 +75,6 @@ impl<'p> ItemsByName<'p> {
             return no_items();
         };
         list_found(at(lists, number))
-    }
-
-    /// The items of the module of an instance with this link.
-    fn of_link<'s>(&'s self, link: Option<Link>) -> &'s [Item<'p>]
-        ensures { items_view result.now ≡ spec.items_linked self.now link.entry }
-    {
-        match link {
-            Some(link) => self.of_module(link.called.as_str()),
-            None => self.of_module("main"),
-        }
     }
 
     /// The items of an instance, given by number. The program is there for the contract alone.
@@ -133,6 +91,6 @@ impl<'p> ItemsByName<'p> {
             ≡ spec.items_at program.now (checking.instance_at table.now row) }
     {
         let rows = table.rows.as_slice();
-        self.of_link(rows[row].link)
+        self.of_module(called_of(rows[row].link))
     }
 }

@@ -24,7 +24,10 @@ pub struct Names<'a> {
 }
 
 /// The index of the first entry of each name.
-fn places_of<'a>(alloc: Global, entries: &[Entry<'a>]) -> Result<HashMap<&'a str, usize>, NoMemory>
+fn positions_of<'a>(
+    alloc: Global,
+    entries: &[Entry<'a>],
+) -> Result<HashMap<&'a str, usize>, NoMemory>
     ensures { IfOk result (IsIndexOf (entries_view entries.now)) }
 {
     let mut positions = HashMap::new(alloc);
@@ -44,7 +47,7 @@ impl<'a> Names<'a> {
         ensures { IfOk result (λ names. entries_view names.entries ≡ spec.entries owner.now) }
     {
         let entries = entries_of(alloc, owner)?;
-        let positions = places_of(alloc, entries.as_slice())?;
+        let positions = positions_of(alloc, entries.as_slice())?;
         Ok(Names { entries, positions })
     }
 
@@ -61,7 +64,7 @@ impl<'a> Names<'a> {
             ≡ entity_among (entries_view self.now.entries) name.now }
     {
         match self.index_of(name) {
-            Some(instance) => match at(self.entries.as_slice(), instance).copied() {
+            Some(index) => match at(self.entries.as_slice(), index).copied() {
                 Some(entry) => Some(entry.entity),
                 None => None,
             },

@@ -27,6 +27,16 @@ pub struct Link<'a> {
     pub called: &'a Text,
 }
 
+/// The name of the module of the instance with this link.
+pub fn called_of<'a>(link: Option<Link<'a>>) -> &'a str
+    ensures { result.now ≡ table.called_of link.entry }
+{
+    match link {
+        Some(link) => link.called.as_str(),
+        None => "main",
+    }
+}
+
 /// An instance, with the names of its module, if there is one. `main` has no link.
 #[derive(Clone, Copy, Drop)]
 pub struct Row<'s, 'a> {
@@ -276,4 +286,21 @@ pub fn instance_table<'s, 'a>(
         expand(program, scopes, &numbers, &mut rows, &mut slots, r, row)?;
     }
     Ok(None)
+}
+
+/// The instance table of a program, whatever the number of its instances.
+pub fn whole_table<'s, 'a>(
+    alloc: Global,
+    program: &Program,
+    scopes: &'s [Scope<'a>],
+) -> Result<InstanceTable<'s, 'a>, NoMemory>
+    requires { map scope_view scopes.now ≡ scopes_of program.now }
+    ensures right { IfOk result (λ t. table.IsTableOf program.now t.rows t.firsts t.slots) }
+    ensures count { IfOk result (λ t. length t.rows ≡ length (spec.instances program.now)) }
+{
+    match instance_table(alloc, program, scopes, usize::MAX)? {
+        Some(table) => Ok(table),
+        // No table in memory has that many instances.
+        None => Err(NoMemory),
+    }
 }

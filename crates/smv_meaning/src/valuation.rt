@@ -1,19 +1,23 @@
 //! The valuation of a written state: the values of the names of instances.
 
-ghost use Rattle.std.specs.Prelude.{◌≡◌, IfOk, List, ℕ, Some, None, slice_get};
+ghost use Rattle.std.specs.Prelude.{◌≡◌, IfOk, List, ℕ, Some, None, map, slice_get};
 ghost use Rattle.fixpoint.specs.Fixpoints.{entry};
 ghost use Rattle.smv_meaning.specs.Slots as slots;
+ghost use Rattle.smv_meaning.specs.InstanceTable.{IsTableOf};
 ghost use Rattle.smv_meaning.specs.NameSets.{in_set};
 ghost use Rattle.smv_meaning.specs.Runs.{written_state};
+ghost use Rattle.smv_meaning.specs.Scopes.{scope_view, scopes_of};
 ghost use Rattle.smv_meaning.specs.Valuation as valuation;
 ghost use Rattle.smv_meaning.specs.Values.{is_symbol as is_symbol_of, symbol_of as symbol_in};
 
-use crate::aliases::resolve;
-use crate::evaluation::{Reader, value};
-use crate::instance_texts::text_below;
+use crate::aliases::{aliases_of, resolve};
+use crate::evaluation::{Environment, value};
+use crate::instance_texts::{name_text, path_texts};
 use crate::mentions::push_paths;
 use crate::run::RunState;
-use crate::table::{Binding, InstanceTable};
+use crate::scope::Scope;
+use crate::symbols::symbols_of;
+use crate::table::{Binding, InstanceTable, whole_table};
 use crate::value::Value;
 use crate::written::WrittenState;
 use fixpoint::{Step, fill};
@@ -22,21 +26,49 @@ use sqlite_items::at;
 use std::alloc::Global;
 use std::collections::HashSet;
 
-/// The context of a run: the instance table of the program, with the data that every state shares.
+/// A program with the tables by which its runs are checked.
 #[derive(Drop)]
-pub struct RunContext<'t> {
-    pub program: &'t Program,
-    pub table: &'t InstanceTable<'t, 't>,
+pub struct RunContext<'s, 'p> {
+    pub program: &'p Program,
+    pub table: InstanceTable<'s, 'p>,
     /// The instance that each slot is an alias of.
-    pub aliases: &'t [Option<usize>],
+    pub aliases: List<Option<usize>>,
     /// The text of the path of each instance.
-    pub texts: &'t [Text],
+    pub texts: List<Text>,
     /// The symbols of all enumerations.
-    pub symbols: &'t HashSet<&'t str>,
-    ghost has: { slots.HasSlots table.now },
-    ghost is_of: { slots.AreAliases table.now aliases.now },
-    ghost spells: { valuation.SpellsNames table.now.rows texts.now },
-    ghost words: { in_set symbols.now ≡ is_symbol_of program.now },
+    pub symbols: HashSet<&'p str>,
+    ghost has: { slots.HasSlots table },
+    ghost is_of: { slots.AreAliases table aliases },
+    ghost spells: { valuation.SpellsNames table.rows texts },
+    ghost paths: { valuation.ArePathTexts table.rows texts },
+    ghost words: { in_set symbols ≡ is_symbol_of program.now },
+}
+
+impl<'s, 'p> RunContext<'s, 'p> {
+    /// The tables of a program.
+    pub fn of_program(
+        alloc: Global,
+        program: &'p Program,
+        scopes: &'s [Scope<'p>],
+    ) -> Result<RunContext<'s, 'p>, NoMemory>
+        requires { map scope_view scopes.now ≡ scopes_of program.now }
+        ensures program { IfOk result (λ context. context.program.now ≡ program.now) }
+        ensures right { IfOk result
+            (λ context. IsTableOf program.now context.table.rows context.table.firsts
+            context.table.slots) }
+    {
+        let table = whole_table(alloc, program, scopes)?;
+        let aliases = aliases_of(alloc, &table)?;
+        let texts = path_texts(alloc, table.rows.as_slice())?;
+        let symbols = symbols_of(alloc, program)?;
+        Ok(RunContext {
+            program,
+            table,
+            aliases,
+            texts,
+            symbols,
+        })
+    }
 }
 
 /// Whether a name is a symbol of an enumeration.
@@ -61,25 +93,6 @@ fn symbol_of(alloc: Global, context: &RunContext, path: &[Text]) -> Result<Optio
     }
 }
 
-/// The text of the path of a name, if there is such an instance.
-fn name_text(
-    alloc: Global,
-    context: &RunContext,
-    row: usize,
-    name: &str,
-) -> Result<Option<Text>, NoMemory>
-    ensures { IfOk result (λ t. t
-        ≡ valuation.name_text context.now.table.now (record { instance = row; name = name.now })) }
-{
-    let Some(found) = at(context.table.rows.as_slice(), row).copied() else {
-        return Ok(None);
-    };
-    match at(context.texts, row) {
-        Some(text) => Ok(Some(text_below(alloc, found.link, text.as_str(), name)?)),
-        None => Ok(None),
-    }
-}
-
 /// The value that a written state has for a variable.
 fn variable_value(
     alloc: Global,
@@ -89,10 +102,11 @@ fn variable_value(
     name: &str,
 ) -> Result<Option<Value>, NoMemory>
     ensures { IfOk result (λ v. v
-        ≡ valuation.variable_at context.now.table.now (written_state written.now.state.now)
+        ≡ valuation.variable_at context.now.table (written_state written.now.state.now)
         (record { instance = row; name = name.now })) }
 {
-    match name_text(alloc, context, row, name)? {
+    let text = name_text(alloc, &context.table, context.texts.as_slice(), row, name)?;
+    match text {
         Some(text) => written.value_of(alloc, text.as_str()),
         None => Ok(None),
     }
@@ -100,23 +114,23 @@ fn variable_value(
 
 /// The environment of an instance, by a table of the values of slots.
 #[derive(Drop)]
-pub struct RowReader<'t> {
-    pub context: &'t RunContext<'t>,
+pub struct RowEnvironment<'t> {
+    pub context: &'t RunContext<'t, 't>,
     pub row: usize,
     pub solution: &'t [Option<Value>],
 }
 
-impl<'t> Reader for RowReader<'t> {
+impl<'t> Environment for RowEnvironment<'t> {
     ghost use Rattle.smv_meaning.specs.Valuation.{row_environment};
 
-    ghost reads = { λ me. row_environment me.context.now.program.now me.context.now.table.now
+    ghost reads = { λ me. row_environment me.context.now.program.now me.context.now.table
         me.solution.now me.row };
 
     fn read(&self, alloc: Global, path: &Path) -> Result<Option<Value>, NoMemory> {
         let context = self.context;
         match resolve(
-            context.table,
-            context.aliases,
+            &context.table,
+            context.aliases.as_slice(),
             self.row,
             path.names.as_slice(),
         ) {
@@ -143,7 +157,7 @@ pub fn table_value(
 /// The transfer function of the valuation of a written state.
 #[derive(Drop)]
 struct ValuationStep<'t> {
-    context: &'t RunContext<'t>,
+    context: &'t RunContext<'t, 't>,
     written: &'t WrittenState<'t>,
 }
 
@@ -156,15 +170,15 @@ impl<'t> ValuationStep<'t> {
         e: &Expr,
     ) -> Result<Option<Value>, NoMemory>
         ensures { IfOk result (λ v. v
-            ≡ valuation.read_row self.now.context.now.program.now self.now.context.now.table.now
+            ≡ valuation.read_row self.now.context.now.program.now self.now.context.now.table
             solution.now row e.now) }
     {
-        let reader = RowReader {
+        let environment = RowEnvironment {
             context: self.context,
             row,
             solution,
         };
-        value(alloc, &reader, &reader, e)
+        value(alloc, &environment, &environment, e)
     }
 }
 
@@ -181,7 +195,7 @@ fn unknown_in(
     push_paths(&mut paths, e)?;
     for path in paths.as_slice() {
         let names = path.names.as_slice();
-        if let Some(slot) = resolve(context.table, context.aliases, row, names) {
+        if let Some(slot) = resolve(&context.table, context.aliases.as_slice(), row, names) {
             if !matches!(at(solution, slot), Some(Some(_))) {
                 return Ok(Some(slot));
             }
@@ -195,11 +209,11 @@ impl<'t> Step<Value> for ValuationStep<'t> {
     ghost use Rattle.smv_meaning.specs.Valuation.{valuation_slots};
     ghost use Rattle.smv_meaning.specs.StepMonotone.{valuation_slots_monotone};
 
-    ghost step = { λ me. valuation_slots me.context.now.program.now me.context.now.table.now
+    ghost step = { λ me. valuation_slots me.context.now.program.now me.context.now.table
         (written_state me.written.now.state.now) };
 
     ghost monotone = { λ me. valuation_slots_monotone me.context.now.program.now
-        me.context.now.table.now (written_state me.written.now.state.now) };
+        me.context.now.table (written_state me.written.now.state.now) };
 
     fn step(
         &self,
@@ -246,13 +260,13 @@ impl<'t> Step<Value> for ValuationStep<'t> {
 }
 
 /// The value of each slot in a written state.
-pub fn value_of_binding(
+pub fn valuation_of(
     alloc: Global,
     context: &RunContext,
     written: &RunState,
 ) -> Result<List<Option<Value>>, NoMemory>
     ensures { IfOk result (λ solution. valuation.IsValuationTable context.now.program.now
-        context.now.table.now (written_state written.now) solution) }
+        context.now.table (written_state written.now) solution) }
 {
     let written = WrittenState::of_state(alloc, written)?;
     let step = ValuationStep {

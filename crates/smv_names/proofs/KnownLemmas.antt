@@ -1,61 +1,42 @@
 -- Resolution of paths by number, and of single names.
-use Rattle.std.proofs.Common.{◌≡◌, ℕ, ◌<◌, Bool, true, false, ◌&&◌, ◌||◌, List, [], ◌∷◌, length, get_or, Option, Some, None, refl, sym, ap, ◌∙◌, subst, arith}
-use Rattle.std.specs.Prelude.{is_some, not, slice_get}
-use Rattle.std.specs.Option.{option_map}
-use Rattle.std.specs.List.{list_all}
+use Rattle.std.proofs.Common.{◌≡◌, ℕ, ◌<◌, Bool, true, false, cond, ◌&&◌, ◌||◌, List, [], ◌∷◌, length, get_or, Option, Some, None, refl, sym, ap, ◌∙◌, subst, arith}
+use Rattle.std.proofs.Math.Bool.{or-false}
+use Rattle.std.specs.Prelude.{is_some, not, find}
+use Rattle.std.specs.List.{list_all, list_any}
 use Rattle.std.specs.Str.{bytes_eq}
 use Rattle.std.proofs.lemmas.Slice.Eq.{bytes_eq-Decides}
 use Rattle.smv_ast.specs.declared.program.Program.{Program}
 use Rattle.smv_meaning.specs.declared.table.InstanceTable.{InstanceTable}
-use Rattle.smv_meaning.specs.declared.table.Slot.{Slot}
 use Rattle.smv_meaning.specs.Value.{Name, and_then}
-use Rattle.smv_meaning.specs.Paths.{Aliases, aliases, resolve, resolve_by}
+use Rattle.smv_meaning.specs.Paths.{QualifiedName, resolve}
 use Rattle.smv_meaning.specs.Instances.{Instance, Entity, Entry, entries, called_at, module_named, module_at, lookup, binding_at, binding_in as renumbered_binding, instances}
 use Rattle.smv_meaning.specs.Values.{is_symbol}
-use Rattle.smv_meaning.specs.InstanceTable.{binding_view}
 use Rattle.smv_meaning.specs.Slots.{slot_of, binding_in, resolve_slot}
 use Rattle.smv_meaning.specs.Checking.{IsTableOfProgram, instance_at}
 use Rattle.smv_meaning.proofs.NumberLemmas.{qualified_at, resolve_same}
+use Rattle.smv_meaning.proofs.BindingLemmas.{some_mapped, resolve_slot_is}
 use Rattle.smv_meaning.specs.Entries.{entity_among}
 use mathlib.Core.Path.{fun_ext}
 use Rattle.std.proofs.Common.{map}
-use Rattle.smv_names.specs.Sets.{no_name, and_names}
-use Rattle.smv_names.proofs.SymbolLemmas.{entries_are}
+use Rattle.smv_meaning.specs.NameSets.{no_name, and_names}
+use Rattle.smv_meaning.proofs.NameSetLemmas.{among}
 use Rattle.smv_names.specs.Unknown.{declared_in, resolves_if_of, is_resolved_in_each, is_resolved}
 
 -- ---- instances by number
 
-some_mapped : {A B : Type 0} (f : A → B) (o : Option A) → is_some (option_map f o) ≡ is_some o
-some_mapped f None = refl
-some_mapped f (Some a) = refl
-
 -- the declaration that a path resolves to has a slot
-has_slot : (table : InstanceTable) (alias : Aliases ℕ) (path : List Name) (row : ℕ) → is_some (and_then (resolve_by (binding_in table) alias row path) (slot_of table)) ≡ is_some (resolve_by (binding_in table) alias row path)
-has_slot table alias [] row = refl
-has_slot table alias (name ∷ []) row = at (slot_of table (qualified_at row name)) refl
+has_slot : (table : InstanceTable) (path : List Name) (row : ℕ) → is_some (resolve_slot table row path) ≡ is_some (resolve (binding_in table) row path)
+has_slot table path row = at (resolve (binding_in table) row path) refl
   where
-    slotted : (k : ℕ) → slot_of table (qualified_at row name) ≡ Some k → (o : Option Slot) →
-        is_some (and_then (and_then (and_then o (λ slot. Some (binding_view slot.binding))) (λ m. Some (qualified_at row name))) (slot_of table)) ≡ is_some (and_then (and_then o (λ slot. Some (binding_view slot.binding))) (λ m. Some (qualified_at row name)))
-    slotted k e None = refl
-    slotted k e (Some slot) = ap is_some e
-
-    at : (o : Option ℕ) → slot_of table (qualified_at row name) ≡ o →
-        is_some (and_then (and_then (and_then o (λ k. and_then (slice_get table.slots k) (λ slot. Some (binding_view slot.binding)))) (λ m. Some (qualified_at row name))) (slot_of table))
-        ≡ is_some (and_then (and_then o (λ k. and_then (slice_get table.slots k) (λ slot. Some (binding_view slot.binding)))) (λ m. Some (qualified_at row name)))
+    at : (o : Option (QualifiedName ℕ)) → resolve (binding_in table) row path ≡ o → is_some (and_then o (slot_of table)) ≡ is_some o
     at None e = refl
-    at (Some k) e = slotted k e (slice_get table.slots k)
-has_slot table alias (name ∷ next ∷ more) row = at (has_slot table alias (next ∷ more)) (alias (qualified_at row name))
-  where
-    at : ((row : ℕ) → is_some (and_then (resolve_by (binding_in table) alias row (next ∷ more)) (slot_of table)) ≡ is_some (resolve_by (binding_in table) alias row (next ∷ more))) → (o : Option ℕ) →
-        is_some (and_then (and_then o (λ p. resolve_by (binding_in table) alias p (next ∷ more))) (slot_of table)) ≡ is_some (and_then o (λ p. resolve_by (binding_in table) alias p (next ∷ more)))
-    at h None = refl
-    at h (Some p) = h p
+    at (Some qualified) e = ap is_some (resolve_slot_is table path row qualified e).1
 
 -- a path resolves by number exactly where it resolves in the program
 pub resolve_is : (program : Program) (table : InstanceTable) (row : ℕ) (path : List Name) → IsTableOfProgram program table → row < length table.rows → is_some (resolve_slot table row path) ≡ is_some (resolve (binding_at program) (instance_at table row) path)
 resolve_is program table row path right h =
     let s = resolve_same program table right path row h in
-    has_slot table (aliases (binding_in table)) path row ∙ (sym (some_mapped (λ qualified. qualified_at (instance_at table qualified.instance) qualified.name) (resolve (binding_in table) row path)) ∙ ap is_some s.same)
+    has_slot table path row ∙ (sym (some_mapped (λ qualified. qualified_at (instance_at table qualified.instance) qualified.name) (resolve (binding_in table) row path)) ∙ ap is_some s.same)
 
 -- ---- paths by their length
 
@@ -91,20 +72,29 @@ single program called [] name h e = absurd (omega arith)
 single program called (n ∷ []) name h e = let s : name ≡ n = e in ap (λ (x : Name). is_resolved program called (x ∷ [])) (sym s) ∙ one_name program called name
 single program called (n ∷ m ∷ path) name h e = absurd (omega arith)
 
-either_false : (b : Bool) → (b || false) ≡ b
-either_false true = refl
-either_false false = refl
-
 -- a path of more names
 pub longer : (program : Program) (called : Name) (path : List Name) (name : Name) → 1 < length path → name ≡ get_or path 0 name → is_resolved program called path ≡ (declared_in program called name && is_resolved_in_each program called path)
 longer program called [] name h e = absurd (omega arith)
 longer program called (n ∷ []) name h e = absurd (omega arith)
-longer program called (n ∷ m ∷ path) name h e = let s : name ≡ n = e in either_false _ ∙ ap (λ (x : Name). declared_in program called x && is_resolved_in_each program called (n ∷ m ∷ path)) (sym s)
+longer program called (n ∷ m ∷ path) name h e = let s : name ≡ n = e in or-false _ ∙ ap (λ (x : Name). declared_in program called x && is_resolved_in_each program called (n ∷ m ∷ path)) (sym s)
 
 -- a path without names
 pub nameless : (program : Program) (called : Name) (path : List Name) → length path ≡ 0 → is_resolved program called path ≡ is_resolved_in_each program called path
-nameless program called [] h = either_false _
+nameless program called [] h = or-false _
 nameless program called (n ∷ path) h = absurd (omega arith)
+
+-- the names of entries are those with an entity
+entries_are : (es : List Entry) (name : Name) → and_names no_name (map (λ e. e.name) es) name ≡ is_some (entity_among es name)
+entries_are es name = among (map (λ e. e.name) es) no_name name ∙ found es
+  where
+    found : (es : List Entry) → list_any (λ n. bytes_eq n name) (map (λ e. e.name) es) ≡ is_some (entity_among es name)
+    found [] = refl
+    found (e ∷ es) = at (found es) (bytes_eq e.name name)
+      where
+        at : list_any (λ n. bytes_eq n name) (map (λ e. e.name) es) ≡ is_some (entity_among es name) → (b : Bool) →
+            (b || list_any (λ n. bytes_eq n name) (map (λ e. e.name) es)) ≡ is_some (and_then (cond b (Some e) (find (λ e. bytes_eq e.name name) es)) (λ e. Some e.entity))
+        at h true = refl
+        at h false = h
 
 -- the set of the names of a module's entries is the set of the names that it declares
 pub declared_are : (program : Program) (called : Name) (es : List Entry) (has : Name → Bool) → es ≡ entries (module_named program called) → has ≡ and_names no_name (map (λ e. e.name) es) → has ≡ declared_in program called

@@ -1,6 +1,4 @@
-pub mod SetLemmas
-pub mod NumberLemmas
-pub mod SymbolLemmas
+pub mod NumberSetLemmas
 pub mod RowsLemmas
 pub mod KnownLemmas
 pub mod SizeLemmas

@@ -1,5 +1,5 @@
 -- The instances of a program, grouped by module.
-use Rattle.std.proofs.Common.{◌≡◌, ℕ, ◌+◌, ◌<◌, ◌≤◌, Bool, true, false, ◌&&◌, ◌||◌, List, [], ◌∷◌, ◌++◌, length, get_or, take, map, cond, Option, Some, None, refl, sym, ap, ◌∙◌}
+use Rattle.std.proofs.Common.{◌≡◌, ℕ, ◌+◌, ◌<◌, ◌≤◌, Bool, true, false, ◌&&◌, ◌||◌, List, [], ◌∷◌, ◌++◌, length, get_or, take, map, cond, refl, sym, ap, ◌∙◌}
 use Rattle.std.specs.Prelude.{not, filter}
 use Rattle.std.specs.List.{list_all}
 use Rattle.std.specs.Str.{bytes_eq}
@@ -8,15 +8,14 @@ use Rattle.std.proofs.lemmas.List.Elements.{All-get_or, All-same, All-filter, fi
 use Rattle.smv_ast.specs.declared.program.Program.{Program}
 use Rattle.smv_meaning.specs.declared.table.InstanceTable.{InstanceTable}
 use Rattle.smv_meaning.specs.declared.table.Row.{Row}
-use Rattle.smv_meaning.specs.declared.table.Link.{Link}
 use Rattle.smv_meaning.specs.Value.{Name}
-use Rattle.smv_meaning.specs.Instances.{Instance, called_at, instances}
-use Rattle.smv_meaning.specs.InstanceTable.{instance_of_link, row_instances}
+use Rattle.smv_meaning.specs.Instances.{instances}
 use Rattle.smv_meaning.specs.Checking.{IsTableOfProgram, AreRows, instance_at}
-use Rattle.smv_meaning.proofs.ValuationLemmas.{get_item}
-use Rattle.smv_names.specs.Rows.{RowMap, called_by_link, is_of, rows_under, rows_of, AreRowsByModule}
+use Rattle.smv_meaning.proofs.ItemIndexLemmas.{called_is}
+use Rattle.smv_names.specs.Rows.{RowMap, is_of, rows_under, rows_of, AreRowsByModule}
+use Rattle.smv_meaning.specs.InstanceTable.{called_of}
 use Rattle.smv_names.specs.declared.rows.RowsByModule.{RowsByModule}
-use Rattle.smv_names.proofs.SetLemmas.{bytes_eq-swapped}
+use Rattle.smv_meaning.proofs.NameSetLemmas.{bytes_eq-swapped}
 
 -- each element fails the first test or passes the second exactly where all that pass the first pass
 -- the second
@@ -39,21 +38,13 @@ filter_mapped {A} {B} f p (x ∷ xs) = at (p (f x)) (filter_mapped f p xs)
 
 -- ---- modules of instances
 
-called_next : (ps : List Instance) (link : Option Link) → called_at (instance_of_link ps link) ≡ called_by_link link
-called_next ps None = refl
-called_next ps (Some link) = refl
-
--- the module of the instance of a row
-called_is : (program : Program) (table : InstanceTable) (k : ℕ) (row : Row) → IsTableOfProgram program table → k < length table.rows → row ≡ get_or table.rows k row → called_at (instance_at table k) ≡ called_by_link row.link
-called_is program table k row right h e = ap called_at (right.rows k row (get_item table.rows k row h e)).instance_at ∙ called_next (row_instances table.rows) row.link
-
 -- the numbers of the instances of the module of a name, among these
 abbrev pub rows_among : InstanceTable → Name → List ℕ → List ℕ
 rows_among table name = filter (λ row. is_of name (instance_at table row))
 
 -- an instance appended to those of its module is one more of those visited
 pub one_more : (program : Program) (table : InstanceTable) (order : List ℕ) (k : ℕ) (row : Row) (called : Name) (old new : RowMap) → IsTableOfProgram program table → AreRows table order → k < length order →
-    row ≡ get_or table.rows (get_or order k 0) row → called ≡ called_by_link row.link →
+    row ≡ get_or table.rows (get_or order k 0) row → called ≡ called_of row.link →
     ((name : Name) → rows_under new name ≡ rows_under old name ++ cond (bytes_eq name called) (get_or order k 0 ∷ []) []) →
     ((name : Name) → rows_under old name ≡ rows_among table name (take k order)) → (name : Name) → rows_under new name ≡ rows_among table name (take (k + 1) order)
 one_more program table order k row called old new right within h e c put before name =

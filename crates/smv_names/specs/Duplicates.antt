@@ -16,7 +16,8 @@ use Rattle.smv_ast.specs.declared.program.Program.{Program}
 use Rattle.smv_meaning.specs.Value.{Name}
 use Rattle.smv_meaning.specs.Items.{Item, Declares, Defines, items}
 use Rattle.smv_meaning.specs.Runs.{or_else}
-use Rattle.smv_names.specs.Sets.{no_name, and_name, and_names, no_number, and_number}
+use Rattle.smv_meaning.specs.NameSets.{no_name, and_name, and_names}
+use Rattle.smv_names.specs.NumberSets.{no_number, and_number}
 use Rattle.smv_names.specs.declared.declared_names.DeclaredName.{DeclaredName as HeldName}
 
 -- a name that a module declares, the span that a fault of it reports, and its type if it is a

@@ -1,4 +1,4 @@
-pub mod Sets
+pub mod NumberSets
 pub mod Duplicates
 pub mod Modules
 pub mod Recursion

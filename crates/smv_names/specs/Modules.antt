@@ -1,10 +1,6 @@
 -- Instances of unknown modules, and instances with too few or too many actuals.
-use Rattle.std.specs.Prelude.{◌≡◌, ℕ, suc, not, ◌&&◌, nat_eq, if◌then◌else◌, List, [], ◌∷◌, length, Option, Some, None, is_some, find, codes}
+use Rattle.std.specs.Prelude.{not, ◌&&◌, nat_eq, if◌then◌else◌, List, length, Option, Some, None, is_some, codes}
 use Rattle.std.specs.Str.{bytes_eq}
-use Rattle.std.specs.HashMap.{HashMap, get_by}
-use Rattle.std.specs.declared.hash.FoldHasher.{FoldHasher}
-use Rattle.std.specs.declared.hash.BuildHasherDefault.{BuildHasherDefault}
-use denote.Ref.{Bor}
 use Rattle.smv_ast.specs.declared.fault.Fault.{Fault}
 use Rattle.smv_ast.specs.declared.fault.Fault.TheVariants as fault
 use Rattle.smv_ast.specs.declared.syntax.Span.{Span}
@@ -14,38 +10,9 @@ use Rattle.smv_ast.specs.declared.program.Declared.TheVariants.{Plain, Instance}
 use Rattle.smv_ast.specs.declared.program.Module.{Module}
 use Rattle.smv_ast.specs.declared.program.Program.{Program}
 use Rattle.smv_meaning.specs.Value.{Name}
+use Rattle.smv_meaning.specs.ModuleNumbers.{the_module}
 use Rattle.smv_meaning.specs.Items.{Item, Declares, items, program_items}
 use Rattle.smv_meaning.specs.Runs.{or_else, first_fault}
-
--- a map from borrowed names to numbers
-abbrev pub NumberMap : Type 0
-NumberMap = HashMap (Bor Name) ℕ (BuildHasherDefault FoldHasher)
-
--- ---- modules by name
-
--- the number of the first module of a name, counted from the number of the first of these modules
-abbrev pub number_from : ℕ → List Module → Name → Option ℕ
-number_from k [] name = None
-number_from k (m ∷ more) name = if bytes_eq m.name name then Some k else number_from (suc k) more
-    name
-
--- the number of the first module of a name
-abbrev pub number_of : Program → Name → Option ℕ
-number_of program = number_from 0 program.modules
-
--- the first module of a name
-abbrev pub the_module : Program → Name → Option Module
-the_module program name = find (λ m. bytes_eq m.name name) program.modules
-
--- the number that a name maps to
-abbrev pub number_in : NumberMap → Name → Option ℕ
-number_in numbers name = get_by (λ n. bytes_eq name n.now) numbers
-
--- each name maps to the number of the first module of that name
-abbrev pub IsNumbering : Program → NumberMap → Type 0
-IsNumbering program numbers = (name : Name) → number_in numbers name ≡ number_of program name
-
--- ---- the two rules
 
 -- a declared entity is an instance of an unknown module
 abbrev pub unknown_declared : Program → Span → Declared → Option Fault

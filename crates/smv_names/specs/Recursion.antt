@@ -10,7 +10,7 @@ use Rattle.smv_ast.specs.declared.program.Program.{Program}
 use Rattle.graph.specs.Graphs.{on_cycle}
 use Rattle.smv_meaning.specs.Items.{Item, Declares, items}
 use Rattle.smv_meaning.specs.Runs.{or_else}
-use Rattle.smv_names.specs.Modules.{number_of}
+use Rattle.smv_meaning.specs.ModuleNumbers.{number_of}
 
 -- ---- the graph of modules, by number
 

@@ -1,5 +1,5 @@
 -- The instances of a program, grouped by module.
-use Rattle.std.specs.Prelude.{◌≡◌, ℕ, Bool, List, [], map, filter, Option, Some, None, codes}
+use Rattle.std.specs.Prelude.{◌≡◌, ℕ, Bool, List, [], map, filter}
 use Rattle.std.specs.Option.{option_map_or}
 use Rattle.std.specs.Str.{bytes_eq}
 use Rattle.std.specs.Global.{Vec}
@@ -8,17 +8,11 @@ use Rattle.std.specs.declared.hash.FoldHasher.{FoldHasher}
 use Rattle.std.specs.declared.hash.BuildHasherDefault.{BuildHasherDefault}
 use denote.Ref.{Bor}
 use Rattle.smv_ast.specs.declared.program.Program.{Program}
-use Rattle.smv_meaning.specs.declared.table.Link.{Link}
 use Rattle.smv_meaning.specs.declared.table.InstanceTable.{InstanceTable}
 use Rattle.smv_meaning.specs.Value.{Name}
 use Rattle.smv_meaning.specs.Instances.{Instance, called_at, instances}
 use Rattle.smv_meaning.specs.Checking.{AreRows, instance_at}
 use Rattle.smv_names.specs.declared.rows.RowsByModule.{RowsByModule}
-
--- the name of the module of an instance with this link
-abbrev pub called_by_link : Option Link → Name
-called_by_link None = codes "main"
-called_by_link (Some link) = link.called.now
 
 -- whether an instance is of the module of this name
 abbrev pub is_of : Name → Instance → Bool

@@ -1,28 +1,24 @@
 -- Paths that are neither known nor a symbol.
 use Rattle.std.specs.Prelude.{◌≡◌, ◌⊎◌, IsTrue, Bool, true, false, not, ◌&&◌, ◌||◌, if◌then◌else◌, List, [], ◌∷◌, Option, Some, None, is_some}
-use Rattle.std.specs.List.{list_all, flat_map}
+use Rattle.std.specs.List.{list_all}
 use Rattle.smv_ast.specs.declared.fault.Fault.{Fault}
 use Rattle.smv_ast.specs.declared.fault.Fault.TheVariants as fault
 use Rattle.smv_ast.specs.declared.syntax.Span.{Span}
 use Rattle.smv_ast.specs.declared.syntax.Path.{Path}
 use Rattle.smv_ast.specs.declared.syntax.Expr.{Expr}
-use Rattle.smv_ast.specs.declared.syntax.SmvType.{SmvType}
-use Rattle.smv_ast.specs.declared.syntax.SmvType.TheVariants as type
-use Rattle.smv_ast.specs.declared.program.Declared.{Declared}
-use Rattle.smv_ast.specs.declared.program.Declared.TheVariants.{Plain, Instance as Submodule}
 use Rattle.smv_ast.specs.declared.program.Module.{Module}
 use Rattle.smv_ast.specs.declared.program.Program.{Program}
 use Rattle.smv_meaning.specs.Value.{Name}
 use Rattle.smv_meaning.specs.Paths.{resolve}
 use Rattle.smv_meaning.specs.Instances.{Instance, module_named, lookup, instances, binding_at}
 use Rattle.smv_meaning.specs.Known.{IsKnown}
-use Rattle.smv_meaning.specs.Items.{Item, Declares, Assigns, exprs_of, items, program_items}
+use Rattle.smv_meaning.specs.Items.{Item, Assigns, exprs_of, items}
 use Rattle.smv_meaning.specs.Values.{is_symbol}
 use Rattle.smv_meaning.specs.Mentions.{paths_of}
 use Rattle.smv_meaning.specs.Runs.{or_else, first_fault, path_text}
 use Rattle.smv_meaning.specs.Slots.{AreAliases}
 use Rattle.smv_meaning.specs.Checking.{IsTableOfProgram}
-use Rattle.smv_names.specs.Sets.{in_set}
+use Rattle.smv_meaning.specs.NameSets.{in_set}
 use Rattle.smv_names.specs.Rows.{is_of, AreRowsOf, AreRowsByModule}
 use Rattle.smv_names.specs.declared.known.Resolver.{Resolver}
 use Rattle.smv_names.specs.declared.known.ModuleScope.{ModuleScope}
@@ -124,24 +120,3 @@ pub record IsModuleScope (s : ModuleScope) : Type 0 where
   pub known : IsResolver s.known.now
   pub declared : in_set s.declared.now ≡ declared_in (scope_program s) s.called.now
   pub rows : AreRowsOf (scope_program s) s.known.now.table.now s.called.now s.rows.now
-
--- ---- the list of all symbols
-
--- the symbols of a type
-abbrev pub type_symbols : SmvType → List Name
-type_symbols (type.Symbols names) = names
-type_symbols t = []
-
--- the symbols of a declaration
-abbrev pub declared_symbols : Declared → List Name
-declared_symbols (Plain t) = type_symbols t
-declared_symbols (Submodule called actuals) = []
-
--- the symbols of an item
-abbrev pub item_symbols : Item → List Name
-item_symbols (Declares name what at) = declared_symbols what
-item_symbols item = []
-
--- the symbols of a program
-abbrev pub symbols : Program → List Name
-symbols program = flat_map item_symbols (program_items program)

@@ -4,30 +4,27 @@ ghost use Rattle.std.specs.Prelude.{◌≡◌, IfOk};
 ghost use Rattle.smv_meaning.specs.Faults.{ReportsFirst};
 ghost use Rattle.smv_names.specs.Modules as spec;
 
-use crate::numbers::module_named;
-use smv_ast::{Declared, Fault, Module, NoMemory, Program, Span, Text};
+use crate::modules::Modules;
+use smv_ast::{Declared, Fault, Module, NoMemory, Span, Text};
 use smv_meaning::items::{Item, items_of};
 use smv_meaning::rules::{ItemRule, check_items};
 use std::alloc::Global;
-use std::collections::HashMap;
 
 /// The rule that an instance has as many actuals as its module has formals.
 #[derive(Drop)]
 struct HasActuals<'p> {
-    program: &'p Program,
-    numbers: &'p HashMap<&'p str, usize>,
-    ghost numbering: { spec.IsNumbering program.now numbers.now },
+    modules: &'p Modules<'p>,
 }
 
 impl<'p> HasActuals<'p> {
     fn fault(&self, alloc: Global, at: Span, what: &Declared) -> Result<Option<Fault>, NoMemory>
         ensures { IfOk result (λ fault. fault
-            ≡ spec.miscounted_declared self.now.program.now at what.now) }
+            ≡ spec.miscounted_declared self.now.modules.now.program.now at what.now) }
     {
         match what {
             Declared::Plain(_) => Ok(None),
             Declared::Instance { module, actuals } => {
-                match module_named(self.program, self.numbers, module.as_str()) {
+                match self.modules.named(module.as_str()) {
                     Some(owner) => {
                         if actuals.len() == owner.formals.len() {
                             return Ok(None);
@@ -47,7 +44,7 @@ impl<'p> HasActuals<'p> {
 impl<'p> ItemRule<Fault> for HasActuals<'p> {
     ghost use Rattle.smv_names.specs.Modules.{miscounted_instance};
 
-    ghost reports = { λ me. miscounted_instance me.program.now };
+    ghost reports = { λ me. miscounted_instance me.modules.now.program.now };
 
     fn judge(&self, alloc: Global, item: Item) -> Result<Option<Fault>, NoMemory> {
         match item {
@@ -72,7 +69,7 @@ fn check_main(alloc: Global, owner: &Module) -> Result<(), Fault>
 }
 
 fn check_module(alloc: Global, rule: &HasActuals, owner: &Module) -> Result<(), Fault>
-    ensures { ReportsFirst (spec.miscounted_within rule.now.program.now owner.now) result }
+    ensures { ReportsFirst (spec.miscounted_within rule.now.modules.now.program.now owner.now) result }
 {
     check_main(alloc, owner)?;
     let items = items_of(alloc, owner)?;
@@ -80,16 +77,11 @@ fn check_module(alloc: Global, rule: &HasActuals, owner: &Module) -> Result<(), 
 }
 
 /// The first wrong number of actuals, or `main` with formals.
-pub fn check_arguments(
-    alloc: Global,
-    program: &Program,
-    numbers: &HashMap<&str, usize>,
-) -> Result<(), Fault>
-    requires { spec.IsNumbering program.now numbers.now }
-    ensures { ReportsFirst (spec.argument_fault program.now) result }
+pub fn check_arguments(alloc: Global, modules: &Modules) -> Result<(), Fault>
+    ensures { ReportsFirst (spec.argument_fault modules.now.program.now) result }
 {
-    let rule = HasActuals { program, numbers };
-    for owner in program.modules.as_slice() {
+    let rule = HasActuals { modules: &*modules };
+    for owner in modules.program.modules.as_slice() {
         check_module(alloc, &rule, owner)?;
     }
     Ok(())

@@ -8,16 +8,15 @@ ghost use Rattle.smv_meaning.specs.Instances.{instances};
 ghost use Rattle.smv_meaning.specs.Runs.{first_fault};
 ghost use Rattle.smv_meaning.specs.Slots as slots;
 ghost use Rattle.smv_names.specs.NamesFault as spec;
-ghost use Rattle.smv_names.specs.Sets.{in_set};
+ghost use Rattle.smv_meaning.specs.NameSets.{in_set};
 ghost use Rattle.smv_names.specs.Unknown as unknown;
 
 use crate::arguments::check_arguments;
 use crate::duplicates::check_duplicates;
 use crate::known::{ModuleScope, Resolver, declared_in};
-use crate::numbers::numbers_of;
+use crate::modules::Modules;
 use crate::recursion::check_recursion;
 use crate::rows::RowsByModule;
-use crate::symbols::symbols_of;
 use crate::unknown::first_unknown;
 use crate::unknown_modules::check_known_modules;
 use smv_ast::{Fault, Module, Program};
@@ -25,6 +24,7 @@ use smv_meaning::aliases::aliases_of;
 use smv_meaning::items::items_of;
 use smv_meaning::rules::report;
 use smv_meaning::scope::{Scope, modules_by_name, scopes_of};
+use smv_meaning::symbols::symbols_of;
 use smv_meaning::table::{InstanceTable, instance_table};
 use std::alloc::Global;
 use std::collections::HashMap;
@@ -33,13 +33,19 @@ use std::collections::HashMap;
 const TOO_MANY: usize = 65_537;
 
 /// The rules on modules, by their names and instances.
-fn check_modules(alloc: Global, program: &Program) -> Result<(), Fault>
+fn check_modules(alloc: Global, modules: &Modules) -> Result<(), Fault>
+    ensures { ReportsFirst (spec.module_fault modules.now.program.now) result }
+{
+    check_known_modules(alloc, modules)?;
+    check_arguments(alloc, modules)?;
+    check_recursion(alloc, modules)
+}
+
+fn check_modules_of(alloc: Global, program: &Program) -> Result<(), Fault>
     ensures { ReportsFirst (spec.module_fault program.now) result }
 {
-    let numbers = numbers_of(alloc, program)?;
-    check_known_modules(alloc, program, &numbers)?;
-    check_arguments(alloc, program, &numbers)?;
-    check_recursion(alloc, program, &numbers)
+    let modules = Modules::of_program(alloc, program)?;
+    check_modules(alloc, &modules)
 }
 
 /// The paths and left sides of a module.
@@ -130,6 +136,6 @@ pub fn check_names(alloc: Global, program: &Program) -> Result<(), Fault>
     ensures { ReportsFirst (spec.names_fault program.now) result }
 {
     check_duplicates(alloc, program)?;
-    check_modules(alloc, program)?;
+    check_modules_of(alloc, program)?;
     check_instances(alloc, program)
 }

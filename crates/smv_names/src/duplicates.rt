@@ -4,12 +4,14 @@ ghost use Rattle.std.specs.Prelude.{◌≡◌, OnOk, IfOk, map, string_bytes};
 ghost use Rattle.std.specs.Fmt.{signed_decimal};
 ghost use Rattle.smv_meaning.specs.Faults.{ReportsFirst};
 ghost use Rattle.smv_names.specs.Duplicates as spec;
-ghost use Rattle.smv_names.specs.Sets.{in_set, no_name, has_number, no_number};
+ghost use Rattle.smv_meaning.specs.NameSets.{in_set, no_name};
+ghost use Rattle.smv_names.specs.NumberSets.{has_number, no_number};
 
 use crate::declared_names::{DeclaredName, declared_names_of};
-use crate::sets::{insert_name, insert_number, no_names, no_numbers};
+use crate::number_sets::{insert_number, no_numbers};
 use itoa::Buffer;
 use smv_ast::{Fault, Module, NoMemory, Program, SmvType, Span, Text};
+use smv_meaning::name_sets::{insert_name, no_names};
 use std::alloc::Global;
 use std::collections::HashSet;
 

@@ -5,14 +5,14 @@ ghost use Rattle.smv_meaning.specs.Entries.{entries_view};
 ghost use Rattle.smv_meaning.specs.Scopes.{scope_view, scopes_of, IsModuleIndex};
 ghost use Rattle.smv_meaning.specs.Values.{is_symbol};
 ghost use Rattle.smv_meaning.specs.Checking.{instance_at};
-ghost use Rattle.smv_names.specs.Sets.{in_set, no_name, and_names};
+ghost use Rattle.smv_meaning.specs.NameSets.{in_set, no_name, and_names};
 ghost use Rattle.smv_names.specs.Unknown as spec;
 
 use crate::rows::RowsByModule;
-use crate::sets::{insert_name, no_names};
 use smv_ast::{NoMemory, Program, Text};
 use smv_meaning::aliases::resolve;
 use smv_meaning::entries::Entry;
+use smv_meaning::name_sets::{insert_name, no_names};
 use smv_meaning::scope::{Scope, entries_found, names_in};
 use smv_meaning::table::InstanceTable;
 use std::alloc::Global;

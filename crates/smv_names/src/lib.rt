@@ -7,11 +7,10 @@ mod check;
 mod declared_names;
 mod duplicates;
 pub mod known;
-mod numbers;
+mod modules;
+mod number_sets;
 mod recursion;
 pub mod rows;
-mod sets;
-pub mod symbols;
 pub mod unknown;
 mod unknown_modules;
 

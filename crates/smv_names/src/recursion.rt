@@ -3,30 +3,27 @@
 ghost use Rattle.std.specs.Prelude.{◌≡◌, ◌++◌, IfOk, OnOk};
 ghost use Rattle.smv_meaning.specs.Faults.{ReportsFirst};
 ghost use Rattle.smv_meaning.specs.Items.{item_view};
-ghost use Rattle.smv_names.specs.Modules.{IsNumbering};
 ghost use Rattle.smv_names.specs.Recursion as spec;
 
+use crate::modules::Modules;
 use graph::Search;
-use smv_ast::{Declared, Fault, List, Module, NoMemory, Program};
+use smv_ast::{Declared, Fault, List, Module, NoMemory};
 use smv_meaning::items::{Item, items_of};
 use std::alloc::Global;
-use std::collections::HashMap;
 
 /// Adds the number of the module of an instance, if the declaration is one.
 fn push_declared(
     calls: &mut List<usize>,
-    numbers: &HashMap<&str, usize>,
-    program: &Program,
+    modules: &Modules,
     what: &Declared,
 ) -> Result<(), NoMemory>
-    requires { IsNumbering program.now numbers.now }
-    ensures { OnOk result (calls.new ≡ calls.old ++ spec.called_declared program.now what.now) }
+    ensures { OnOk result (calls.new ≡ calls.old ++ spec.called_declared modules.now.program.now what.now) }
 {
     match what {
         Declared::Plain(_) => Ok(()),
-        Declared::Instance { module, .. } => match numbers.get(module.as_str()) {
+        Declared::Instance { module, .. } => match modules.number_of(module.as_str()) {
             Some(number) => {
-                calls.push(*number)?;
+                calls.push(number)?;
                 Ok(())
             }
             None => Ok(()),
@@ -34,54 +31,35 @@ fn push_declared(
     }
 }
 
-fn push_item(
-    calls: &mut List<usize>,
-    numbers: &HashMap<&str, usize>,
-    program: &Program,
-    item: Item,
-) -> Result<(), NoMemory>
-    requires { IsNumbering program.now numbers.now }
+fn push_item(calls: &mut List<usize>, modules: &Modules, item: Item) -> Result<(), NoMemory>
     ensures { OnOk result (calls.new
-        ≡ calls.old ++ spec.called_by program.now (item_view item.entry)) }
+        ≡ calls.old ++ spec.called_by modules.now.program.now (item_view item.entry)) }
 {
     match item {
-        Item::Declaration(declaration) => {
-            push_declared(calls, numbers, program, &declaration.what)
-        }
+        Item::Declaration(declaration) => { push_declared(calls, modules, &declaration.what) }
         _ => Ok(()),
     }
 }
 
 /// The numbers of the modules whose instances a module declares.
-fn calls_of(
-    alloc: Global,
-    numbers: &HashMap<&str, usize>,
-    program: &Program,
-    owner: &Module,
-) -> Result<List<usize>, NoMemory>
-    requires { IsNumbering program.now numbers.now }
-    ensures { IfOk result (λ calls. calls ≡ spec.called_within program.now owner.now) }
+fn calls_of(alloc: Global, modules: &Modules, owner: &Module) -> Result<List<usize>, NoMemory>
+    ensures { IfOk result (λ calls. calls ≡ spec.called_within modules.now.program.now owner.now) }
 {
     let items = items_of(alloc, owner)?;
     let mut calls = List::new(alloc);
     for item in items.as_slice() {
-        push_item(&mut calls, numbers, program, *item)?;
+        push_item(&mut calls, modules, *item)?;
     }
     Ok(calls)
 }
 
 /// The graph of modules: the successors of a module are the modules of its instances.
-fn graph_of(
-    alloc: Global,
-    numbers: &HashMap<&str, usize>,
-    program: &Program,
-) -> Result<List<List<usize>>, NoMemory>
-    requires { IsNumbering program.now numbers.now }
-    ensures { IfOk result (λ graph. graph ≡ spec.graph program.now) }
+fn graph_of(alloc: Global, modules: &Modules) -> Result<List<List<usize>>, NoMemory>
+    ensures { IfOk result (λ graph. graph ≡ spec.graph modules.now.program.now) }
 {
     let mut graph = List::new(alloc);
-    for owner in program.modules.as_slice() {
-        graph.push(calls_of(alloc, numbers, program, owner)?)?;
+    for owner in modules.program.modules.as_slice() {
+        graph.push(calls_of(alloc, modules, owner)?)?;
     }
     Ok(graph)
 }
@@ -112,14 +90,9 @@ fn check_graph(alloc: Global, graph: &[List<usize>], modules: &[Module]) -> Resu
 }
 
 /// The first module that is on a cycle.
-pub fn check_recursion(
-    alloc: Global,
-    program: &Program,
-    numbers: &HashMap<&str, usize>,
-) -> Result<(), Fault>
-    requires { IsNumbering program.now numbers.now }
-    ensures { ReportsFirst (spec.recursion_fault program.now) result }
+pub fn check_recursion(alloc: Global, modules: &Modules) -> Result<(), Fault>
+    ensures { ReportsFirst (spec.recursion_fault modules.now.program.now) result }
 {
-    let graph = graph_of(alloc, numbers, program)?;
-    check_graph(alloc, graph.as_slice(), program.modules.as_slice())
+    let graph = graph_of(alloc, modules)?;
+    check_graph(alloc, graph.as_slice(), modules.program.modules.as_slice())
 }

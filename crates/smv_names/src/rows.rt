@@ -7,7 +7,7 @@ ghost use Rattle.smv_names.specs.Rows as spec;
 
 use smv_ast::{NoMemory, Program};
 use smv_meaning::order::order_of;
-use smv_meaning::table::{InstanceTable, Link};
+use smv_meaning::table::{InstanceTable, called_of};
 use std::alloc::Global;
 use std::collections::HashMap;
 
@@ -15,16 +15,6 @@ use std::collections::HashMap;
 #[derive(Drop)]
 pub struct RowsByModule<'p> {
     by_name: HashMap<&'p str, Vec<usize>>,
-}
-
-/// The name of the module of an instance with this link.
-fn called_of<'p>(link: Option<Link<'p>>) -> &'p str
-    ensures { result.now ≡ spec.called_by_link link.entry }
-{
-    match link {
-        Some(link) => link.called.as_str(),
-        None => "main",
-    }
 }
 
 /// Appends an instance to those of its module.

@@ -16,7 +16,7 @@ use Rattle.smv_nodes.specs.Own.{saturating_add}
 use Rattle.smv_nodes.specs.Mentions.{reads_of}
 use Rattle.smv_nodes.proofs.OwnLemmas.{saturating_add_assoc, saturating_add_more, saturating_add_less}
 use Rattle.smv_nodes.specs.Count.{Lookup, ReadExpr, Shared, shared_expr, shared_in, content_reads, names_nodes, own_nodes, expr_nodes, exprs_nodes, ReachedIn, IsReached, exprs_of_shared, IsCount}
-use Rattle.smv_nodes.specs.Held.{same}
+use Rattle.smv_nodes.specs.CountBySlot.{same}
 
 -- ---- sums
 

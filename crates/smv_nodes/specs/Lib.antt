@@ -1,4 +1,4 @@
 pub mod Own
 pub mod Mentions
 pub mod Count
-pub mod Held
+pub mod CountBySlot

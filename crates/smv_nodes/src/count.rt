@@ -11,7 +11,7 @@ ghost use Rattle.smv_meaning.specs.InstanceTable.{binding_view};
 ghost use Rattle.smv_nodes.specs.Own.{saturating_add};
 ghost use Rattle.smv_nodes.specs.Mentions as mentions_spec;
 ghost use Rattle.smv_nodes.specs.Count as spec;
-ghost use Rattle.smv_nodes.specs.Held as held;
+ghost use Rattle.smv_nodes.specs.CountBySlot as by_slot;
 
 use crate::mentions::{Mention, push_reads};
 use crate::own::nodes_of;
@@ -25,7 +25,7 @@ use std::alloc::Global;
 
 /// The expression of a binding in an instance, now or after the step.
 fn read_expr_of<'a>(row: usize, binding: Binding<'a>, after_step: bool) -> Option<ReadExpr<'a>>
-    ensures { option_map held.read_expr_view result
+    ensures { option_map by_slot.read_expr_view result
         ≡ and_then (spec.content row (binding_view binding.entry))
         (λ c. Some (spec.value_expr c.0 c.1 after_step)) }
 {
@@ -52,8 +52,8 @@ fn shared_expr<'s, 'a>(
     slot: usize,
     after_step: bool,
 ) -> Option<ReadExpr<'a>>
-    ensures { option_map held.read_expr_view result
-        ≡ spec.shared_expr (held.of_table table.now) (slot, after_step) }
+    ensures { option_map by_slot.read_expr_view result
+        ≡ spec.shared_expr (by_slot.of_table table.now) (slot, after_step) }
 {
     match at(table.slots.as_slice(), slot).copied() {
         Some(slot) => read_expr_of(slot.row, slot.binding, after_step),
@@ -70,7 +70,7 @@ fn shared_by(
 ) -> Option<(usize, bool)>
     requires has { slots.HasSlots table.now }
     requires is_of { slots.AreAliases table.now aliases.now }
-    ensures { result ≡ spec.shared_by (held.of_table table.now) row
+    ensures { result ≡ spec.shared_by (by_slot.of_table table.now) row
         (mentions_spec.mention_view mention.entry) }
 {
     match resolve(table, aliases, row, mention.path.names.as_slice()) {
@@ -89,7 +89,7 @@ fn insert_shared(
 ) -> Result<u64, NoMemory>
     ensures own { IfOk result (λ n. n ≡ spec.name_nodes shared) }
     ensures found { OnOk result
-        (found.new.keys ≡ fold (insert_key held.same) found.old.keys (option_to_list shared)) }
+        (found.new.keys ≡ fold (insert_key by_slot.same) found.old.keys (option_to_list shared)) }
 {
     match shared {
         Some(shared) => {
@@ -113,11 +113,11 @@ fn take_names(
     requires has { slots.HasSlots table.now }
     requires is_of { slots.AreAliases table.now aliases.now }
     ensures count { IfOk result
-        (λ n. n ≡ saturating_add before (spec.names_nodes (held.of_table table.now) row
+        (λ n. n ≡ saturating_add before (spec.names_nodes (by_slot.of_table table.now) row
         (mentions_spec.mention_views mentions.now))) }
     ensures found { OnOk result
-        (found.new.keys ≡ fold (insert_key held.same) found.old.keys
-        (spec.shared_among (held.of_table table.now) row
+        (found.new.keys ≡ fold (insert_key by_slot.same) found.old.keys
+        (spec.shared_among (by_slot.of_table table.now) row
         (mentions_spec.mention_views mentions.now))) }
 {
     let mut count = before;
@@ -130,7 +130,7 @@ fn take_names(
 
 /// The nodes of an expression, without its names.
 fn own_nodes(read_expr: ReadExpr) -> u64
-    ensures { result ≡ spec.own_nodes (held.read_expr_view read_expr.entry) }
+    ensures { result ≡ spec.own_nodes (by_slot.read_expr_view read_expr.entry) }
 {
     let nodes = nodes_of(read_expr.right);
     if read_expr.assigned {
@@ -154,11 +154,11 @@ fn take_expr(
     requires has { slots.HasSlots table.now }
     requires is_of { slots.AreAliases table.now aliases.now }
     ensures count { IfOk result
-        (λ n. n ≡ saturating_add before (spec.expr_nodes (held.of_table table.now)
-        (held.read_expr_view read_expr.entry))) }
+        (λ n. n ≡ saturating_add before (spec.expr_nodes (by_slot.of_table table.now)
+        (by_slot.read_expr_view read_expr.entry))) }
     ensures found { OnOk result
-        (found.new.keys ≡ fold (insert_key held.same) found.old.keys
-        (spec.shared_in (held.of_table table.now) (held.read_expr_view read_expr.entry))) }
+        (found.new.keys ≡ fold (insert_key by_slot.same) found.old.keys
+        (spec.shared_in (by_slot.of_table table.now) (by_slot.read_expr_view read_expr.entry))) }
 {
     let mut mentions = Vec::new(alloc);
     push_reads(&mut mentions, read_expr.right, read_expr.after_step)?;
@@ -185,12 +185,12 @@ fn take_exprs(
     requires has { slots.HasSlots table.now }
     requires is_of { slots.AreAliases table.now aliases.now }
     ensures count { IfOk result
-        (λ n. n ≡ spec.exprs_nodes (held.of_table table.now)
-        (held.read_expr_views read_exprs.now)) }
+        (λ n. n ≡ spec.exprs_nodes (by_slot.of_table table.now)
+        (by_slot.read_expr_views read_exprs.now)) }
     ensures found { OnOk result
-        (found.new.keys ≡ fold (insert_key held.same) found.old.keys
-        (flat_map (spec.shared_in (held.of_table table.now))
-        (held.read_expr_views read_exprs.now))) }
+        (found.new.keys ≡ fold (insert_key by_slot.same) found.old.keys
+        (flat_map (spec.shared_in (by_slot.of_table table.now))
+        (by_slot.read_expr_views read_exprs.now))) }
 {
     let mut count = 0;
     for read_expr in read_exprs {
@@ -212,12 +212,12 @@ fn take_shared(
     requires has { slots.HasSlots table.now }
     requires is_of { slots.AreAliases table.now aliases.now }
     ensures count { IfOk result
-        (λ n. n ≡ saturating_add before (spec.exprs_nodes (held.of_table table.now)
-        (option_to_list (spec.shared_expr (held.of_table table.now) shared)))) }
+        (λ n. n ≡ saturating_add before (spec.exprs_nodes (by_slot.of_table table.now)
+        (option_to_list (spec.shared_expr (by_slot.of_table table.now) shared)))) }
     ensures found { OnOk result
-        (found.new.keys ≡ fold (insert_key held.same) found.old.keys
-        (flat_map (spec.shared_in (held.of_table table.now))
-        (option_to_list (spec.shared_expr (held.of_table table.now) shared)))) }
+        (found.new.keys ≡ fold (insert_key by_slot.same) found.old.keys
+        (flat_map (spec.shared_in (by_slot.of_table table.now))
+        (option_to_list (spec.shared_expr (by_slot.of_table table.now) shared)))) }
 {
     match shared_expr(table, shared.0, shared.1) {
         Some(read_expr) => take_expr(alloc, found, table, aliases, read_expr, before),
@@ -228,7 +228,7 @@ fn take_shared(
 /// The shared node at this index.
 fn found_at(found: &IndexSet<(usize, bool)>, k: usize) -> Option<(usize, bool)>
     ensures found { result ≡ slice_get found.now.keys k }
-    ensures once { IsDistinct held.same found.now.keys }
+    ensures once { IsDistinct by_slot.same found.now.keys }
 {
     if k < found.len() {
         found.get_index(k).copied()
@@ -246,8 +246,8 @@ fn count_read_exprs(
 ) -> Result<u64, NoMemory>
     requires has { slots.HasSlots table.now }
     requires is_of { slots.AreAliases table.now aliases.now }
-    ensures { IfOk result (λ n. spec.IsCount (held.of_table table.now)
-        (held.read_expr_views read_exprs.now) n) }
+    ensures { IfOk result (λ n. spec.IsCount (by_slot.of_table table.now)
+        (by_slot.read_expr_views read_exprs.now) n) }
 {
     let mut found = IndexSet::new(alloc);
     let mut count = take_exprs(alloc, &mut found, table, aliases, read_exprs)?;
@@ -276,8 +276,8 @@ pub fn count_nodes(
     requires right { checking.IsTableOfProgram program.now table.now }
     requires is_of { slots.AreAliases table.now aliases.now }
     requires rows { checking.AreRows table.now order.now }
-    ensures { IfOk result (λ n. spec.IsCount (held.of_table table.now)
-        (held.table_exprs program.now table.now order.now) n) }
+    ensures { IfOk result (λ n. spec.IsCount (by_slot.of_table table.now)
+        (by_slot.table_exprs program.now table.now order.now) n) }
 {
     let read_exprs = table_exprs(alloc, program, table, order)?;
     count_read_exprs(alloc, table, aliases, read_exprs.as_slice())

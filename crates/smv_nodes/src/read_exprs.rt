@@ -5,7 +5,7 @@ ghost use Rattle.std.specs.List.{flat_map};
 ghost use Rattle.smv_meaning.specs.Checking as checking;
 ghost use Rattle.smv_meaning.specs.Items.{item_view, items_view};
 ghost use Rattle.smv_nodes.specs.Count as spec;
-ghost use Rattle.smv_nodes.specs.Held as held;
+ghost use Rattle.smv_nodes.specs.CountBySlot as by_slot;
 
 use smv_ast::{Expr, NoMemory, Program};
 use smv_meaning::item_index::ItemsByName;
@@ -31,8 +31,8 @@ fn push_expr<'a>(
     right: &'a Expr,
     assigned: bool,
 ) -> Result<(), AllocError>
-    ensures { OnOk result (held.read_expr_views read_exprs.new.items
-        ≡ held.read_expr_views read_exprs.old.items ++ spec.read_now row right.now assigned ∷ []) }
+    ensures { OnOk result (by_slot.read_expr_views read_exprs.new.items
+        ≡ by_slot.read_expr_views read_exprs.old.items ++ spec.read_now row right.now assigned ∷ []) }
 {
     read_exprs.push(ReadExpr {
         row,
@@ -49,8 +49,8 @@ fn push_item<'a>(
     row: usize,
     item: Item<'a>,
 ) -> Result<(), AllocError>
-    ensures { OnOk result (held.read_expr_views read_exprs.new.items
-        ≡ held.read_expr_views read_exprs.old.items ++ spec.item_exprs row (item_view item.entry)) }
+    ensures { OnOk result (by_slot.read_expr_views read_exprs.new.items
+        ≡ by_slot.read_expr_views read_exprs.old.items ++ spec.item_exprs row (item_view item.entry)) }
 {
     match item {
         Item::Assignment(assignment) => push_expr(read_exprs, row, &assignment.right, true),
@@ -65,8 +65,8 @@ fn push_items<'a>(
     row: usize,
     items: &[Item<'a>],
 ) -> Result<(), AllocError>
-    ensures { OnOk result (held.read_expr_views read_exprs.new.items
-        ≡ held.read_expr_views read_exprs.old.items
+    ensures { OnOk result (by_slot.read_expr_views read_exprs.new.items
+        ≡ by_slot.read_expr_views read_exprs.old.items
         ++ flat_map (spec.item_exprs row) (items_view items.now)) }
 {
     for item in items {
@@ -84,8 +84,8 @@ pub fn table_exprs<'p>(
 ) -> Result<Vec<ReadExpr<'p>>, NoMemory>
     requires right { checking.IsTableOfProgram program.now table.now }
     requires rows { checking.AreRows table.now order.now }
-    ensures { IfOk result (λ read_exprs. held.read_expr_views read_exprs.items
-        ≡ held.table_exprs program.now table.now order.now) }
+    ensures { IfOk result (λ read_exprs. by_slot.read_expr_views read_exprs.items
+        ≡ by_slot.table_exprs program.now table.now order.now) }
 {
     let index = ItemsByName::of_program(alloc, program)?;
     let mut read_exprs = Vec::new(alloc);

@@ -1,5 +1,6 @@
 -- An expression in which no `next` may stand, and none stands, has the same value whatever the state after the step.
-use Rattle.std.proofs.Common.{◌≡◌, Bool, true, false, ◌||◌, List, [], ◌∷◌, Option, Some, map, refl, sym, subst}
+use Rattle.std.proofs.Common.{◌≡◌, Bool, false, List, [], ◌∷◌, Some, map, sym, subst}
+use Rattle.std.proofs.lemmas.Bool.{or_parts}
 use Rattle.std.specs.List.{list_any}
 use Rattle.fixpoint.specs.OptionOrder.{Le}
 use Rattle.smv_ast.specs.declared.syntax.Expr.{Expr, Expr-F, roll-Expr, fold-roll-Expr, map-Expr, ind-Expr}
@@ -12,10 +13,6 @@ use Rattle.smv_meaning.specs.Denotations.{Environment, Allowed, Denotation, Bran
 use Rattle.smv_meaning.specs.Layers.{LeAllowed, LeDenotation, LeBranch, single_le, EachDenotation, EachBranch, each_le, between_le, neg_le, not_le, binary_le, within_le, cases_le, pick_le}
 use Rattle.smv_meaning.specs.MentionedPaths.{choice_denotations, expr_denotations, denotation_roll, choice_roll, branch_roll}
 use Rattle.smv_shape.specs.Nexts.{Placed, choice_layer, expr_layer, branch_layer, has_stray_next, choice_has_stray, branch_has_stray}
-
-neither : (a b : Bool) → (a || b) ≡ false → (a ≡ false) × (b ≡ false)
-neither true b h = cc
-neither false b h = (refl, h)
 
 -- what the first environment has now, the second has now; of the state after nothing is asked
 abbrev pub SameNow : Environment → Environment → Environment → Environment → Type 0
@@ -53,11 +50,11 @@ expr_flags = map-Expr Choice Expr Branch Placed Placed Placed choice_has_stray h
 
 parts_steady : (ps : List Exprs) → list_any (λ part. part false) (map has_stray_next (map (λ e. e.0) ps)) ≡ false → EachDenotation SameNow (map denotation_of (map (λ e. e.0) ps)) (map denotation_of (map (λ e. e.0) ps))
 parts_steady [] h = tt
-parts_steady (e ∷ ps) h = let b = neither (has_stray_next e.0 false) _ h in (e.1 b.0, parts_steady ps b.1)
+parts_steady (e ∷ ps) h = let b = or_parts (has_stray_next e.0 false) _ h in (e.1 b.0, parts_steady ps b.1)
 
 branches_steady : (bs : List Branches) → list_any (λ branch. branch false) (map branch_has_stray (map (λ b. b.0) bs)) ≡ false → EachBranch SameNow (map branch_denotation_of (map (λ b. b.0) bs)) (map branch_denotation_of (map (λ b. b.0) bs))
 branches_steady [] h = tt
-branches_steady (b ∷ bs) h = let c = neither (branch_has_stray b.0 false) _ h in (b.1 c.0, branches_steady bs c.1)
+branches_steady (b ∷ bs) h = let c = or_parts (branch_has_stray b.0 false) _ h in (b.1 c.0, branches_steady bs c.1)
 
 choice_steady : (y : Choice-F Choices Exprs Branches) → SteadyAllowed (choice_denotation (choice_denotations (choice_of y))) (choice_layer (choice_flags (choice_of y)))
 choice_steady (Choice-F.Each ps) h = each_le SameNow _ _ (parts_steady ps h)
@@ -70,8 +67,8 @@ expr_steady (Expr-F.Number n) h = single_le SameNow _ _ (λ now after now' after
 expr_steady (Expr-F.Name path) h = single_le SameNow (λ now after. now path.names) (λ now after. now path.names) (λ now after now' after' m. m path.names)
 expr_steady (Expr-F.Neg a) h = neg_le SameNow _ _ (a.1 h)
 expr_steady (Expr-F.Not a) h = not_le SameNow _ _ (a.1 h)
-expr_steady (Expr-F.Binary o a b) h = let n = neither (has_stray_next a.0 false) _ h in binary_le SameNow o _ _ _ _ (a.1 n.0) (b.1 n.1)
-expr_steady (Expr-F.Within a c) h = let n = neither (has_stray_next a.0 false) _ h in within_le SameNow _ _ _ _ (a.1 n.0) (c.1 n.1)
+expr_steady (Expr-F.Binary o a b) h = let n = or_parts (has_stray_next a.0 false) _ h in binary_le SameNow o _ _ _ _ (a.1 n.0) (b.1 n.1)
+expr_steady (Expr-F.Within a c) h = let n = or_parts (has_stray_next a.0 false) _ h in within_le SameNow _ _ _ _ (a.1 n.0) (c.1 n.1)
 expr_steady (Expr-F.Cases bs) h = cases_le SameNow _ _ (branches_steady bs h)
 expr_steady (Expr-F.Next a) h = cc
 expr_steady (Expr-F.Pick c) h = pick_le SameNow _ _ (c.1 h)
@@ -90,7 +87,7 @@ branch_step : (a b : Exprs) → SteadyBranch (branch_denotation_of (roll-Branch 
 branch_step a b =
     subst (λ (s : BranchDenotation). SteadyBranch s (branch_has_stray (roll-Branch (record { cond = a.0; value = b.0 })))) (sym (branch_roll a.0 b.0))
     (subst (SteadyBranch (record { cond = denotation_of a.0; value = denotation_of b.0 })) (sym (fold-roll-Branch Placed Placed Placed choice_layer expr_layer branch_layer (record { cond = a.0; value = b.0 })))
-    (λ h. let n = neither (has_stray_next a.0 false) _ h in record { cond = a.1 n.0; value = b.1 n.1 }))
+    (λ h. let n = or_parts (has_stray_next a.0 false) _ h in record { cond = a.1 n.0; value = b.1 n.1 }))
 
 -- the law
 pub without_next : (e : Expr) → has_stray_next e false ≡ false → LeDenotation SameNow (denotation_of e) (denotation_of e)

@@ -14,7 +14,7 @@ use Rattle.smv_meaning.specs.Instances.{Entity, Variable, lookup}
 use Rattle.smv_meaning.specs.Items.{Item, Assigns, items}
 use Rattle.smv_meaning.specs.Runs.{or_else, first_fault}
 use Rattle.smv_shape.specs.declared.assigned.Lefts.{Lefts}
-use Rattle.smv_shape.specs.Names.{Names, in_set}
+use Rattle.smv_meaning.specs.NameSets.{NameSet, in_set}
 
 -- ---- names other than variables
 
@@ -101,7 +101,7 @@ clash_by held left.Next name = held left.Next name || held left.Now name
 clash_by held left.Now name = held left.Now name || (held left.Init name || held left.Next name)
 
 -- the set of the names that have a left side of this form
-abbrev pub names_of : Lefts → Left → Names
+abbrev pub names_of : Lefts → Left → NameSet
 names_of lefts left.Init = lefts.first
 names_of lefts left.Next = lefts.next
 names_of lefts left.Now = lefts.each

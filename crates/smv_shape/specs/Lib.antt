@@ -1,4 +1,3 @@
-pub mod Names
 pub mod Ranges
 pub mod Choices
 pub mod Nexts

@@ -6,7 +6,7 @@ ghost use Rattle.smv_ast.specs.declared.program.Left.{Left as LeftSide};
 ghost use Rattle.smv_meaning.specs.Entries.{entries_view, entity_view, entity_among};
 ghost use Rattle.smv_meaning.specs.Faults.{ReportsFirst};
 ghost use Rattle.smv_meaning.specs.Items.{item_view, items_view};
-ghost use Rattle.smv_shape.specs.Names.{in_set};
+ghost use Rattle.smv_meaning.specs.NameSets.{in_set};
 ghost use Rattle.smv_shape.specs.Assigned as spec;
 
 use crate::names::{has, put};
@@ -50,7 +50,7 @@ struct NoTarget<'a> {
 }
 
 impl<'a> ItemRule<Fault> for NoTarget<'a> {
-    ghost use Rattle.smv_shape.specs.Names.{in_set};
+    ghost use Rattle.smv_meaning.specs.NameSets.{in_set};
     ghost use Rattle.smv_shape.specs.Assigned.{target_fault};
 
     ghost reports = { λ me. target_fault (in_set me.names) };

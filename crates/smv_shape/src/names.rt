@@ -2,7 +2,7 @@
 
 ghost use Rattle.std.specs.Prelude.{◌≡◌, ℕ, List, OnOk, if◌then◌else◌};
 ghost use Rattle.std.specs.Str.{bytes_eq};
-ghost use Rattle.smv_shape.specs.Names as spec;
+ghost use Rattle.smv_meaning.specs.NameSets as spec;
 
 use smv_ast::NoMemory;
 use std::collections::HashSet;

@@ -1,28 +1,22 @@
 -- The instances of a model without a fault of names are distinct.
 use Rattle.std.proofs.Common.{◌≡◌, ◌≢◌, ℕ, zero, suc, ◌≤◌, ◌⊎◌, inl, inr, Bool, true, false, cond, List, [], ◌∷◌, ◌++◌, length, map, Some, None, refl, sym, ap, ◌∙◌, subst, arith}
+use Rattle.std.proofs.lemmas.Bool.{or_parts}
 use Rattle.std.specs.Prelude.{find}
 use Rattle.std.specs.List.{flat_map, AllPairs}
 use Rattle.std.specs.Str.{bytes_eq}
 use Rattle.std.proofs.lemmas.Slice.Eq.{bytes_eq-Decides}
-use Rattle.smv_ast.specs.declared.fault.Fault.{Fault}
 use Rattle.smv_ast.specs.declared.syntax.Span.{Span}
-use Rattle.smv_ast.specs.declared.program.Assignment.{Assignment}
-use Rattle.smv_ast.specs.declared.program.Declaration.{Declaration}
-use Rattle.smv_ast.specs.declared.program.Definition.{Definition}
-use Rattle.smv_ast.specs.declared.program.Section.{Section}
-use Rattle.smv_ast.specs.declared.program.Section.TheVariants as section
 use Rattle.smv_ast.specs.declared.program.Module.{Module}
 use Rattle.smv_ast.specs.declared.program.Program.{Program}
 use Rattle.smv_meaning.specs.Value.{Name}
-use Rattle.smv_meaning.specs.Instances.{Entity, Variable, Inner, Defined, Formal, Entry, Instance, Main, Within, formals_from, section_entries, declaration_entry, definition_entry, entries, or_empty, called_at, module_at, goes_deeper, inner_of, inner_instances, depth_of, subtree, instances}
-use Rattle.smv_meaning.specs.Items.{Item, declaration_item, assignment_item, definition_item, section_items, all_items, items}
-use Rattle.smv_names.specs.Sets.{and_name, no_name}
+use Rattle.smv_meaning.specs.Instances.{Entity, Variable, Inner, Defined, Formal, Entry, Instance, Main, Within, formals_from, item_entries, entries, or_empty, called_at, module_at, goes_deeper, inner_of, inner_instances, depth_of, subtree, instances}
+use Rattle.smv_meaning.specs.Items.{Item, Declares, Assigns, Defines, Constrains, items}
+use Rattle.smv_meaning.specs.NameSets.{and_name, no_name}
 use Rattle.smv_names.specs.Duplicates.{DeclaredName, name_of_formal, names_of_item, declared_names, declares, duplicate_declared, duplicate_in_type, duplicate_name, duplicate_at, duplicate_within, duplicate_among_names, duplicate_among_modules, duplicate_fault}
 use Rattle.smv_names.specs.NamesFault.{names_fault, module_fault, instance_fault}
 use Rattle.smv_meaning.proofs.MemberLemmas.{In, from_flat, inner_is}
 use Rattle.smv_types.proofs.ApartLemmas.{Apart, pairs_of, apart_before, one_source, flat_apart}
-use Rattle.smv_types.proofs.Shaped.{neither}
-use Rattle.smv_types.proofs.ShapedPrograms.{neither_found}
+use Rattle.smv_meaning.proofs.FirstFault.{neither_found, not_broken}
 use Rattle.smv_meaning.specs.Runs.{or_else}
 
 -- ---- the names of a module
@@ -41,38 +35,16 @@ formals_same k at (name ∷ names) es ss h = ap (λ (l : List Name). name ∷ l)
 abbrev item_names : List Item → List Name
 item_names xs = names_declared (flat_map names_of_item xs)
 
-declarations_same : (ds : List Declaration) (es : List Entry) (xs : List Item) → entry_names es ≡ item_names xs → entry_names (map declaration_entry ds ++ es) ≡ item_names (map declaration_item ds ++ xs)
-declarations_same [] es xs h = h
-declarations_same (d ∷ ds) es xs h = ap (λ (l : List Name). d.name ∷ l) (declarations_same ds es xs h)
-
-definitions_same : (ds : List Definition) (es : List Entry) (xs : List Item) → entry_names es ≡ item_names xs → entry_names (map definition_entry ds ++ es) ≡ item_names (map definition_item ds ++ xs)
-definitions_same [] es xs h = h
-definitions_same (d ∷ ds) es xs h = ap (λ (l : List Name). d.name ∷ l) (definitions_same ds es xs h)
-
-none_assigned : (as' : List Assignment) (es : List Entry) (xs : List Item) → entry_names es ≡ item_names xs → entry_names es ≡ item_names (map assignment_item as' ++ xs)
-none_assigned [] es xs h = h
-none_assigned (a ∷ as') es xs h = none_assigned as' es xs h
-
-section_same : (s : Section) (es : List Entry) (xs : List Item) → entry_names es ≡ item_names xs → entry_names (section_entries s ++ es) ≡ item_names (section_items s ++ xs)
-section_same (section.Vars ds) es xs h = declarations_same ds es xs h
-section_same (section.Assigns as') es xs h = none_assigned as' es xs h
-section_same (section.Defines ds) es xs h = definitions_same ds es xs h
-section_same (section.Init e at) es xs h = h
-section_same (section.Invar e at) es xs h = h
-section_same (section.Trans e at) es xs h = h
-section_same (section.InvarSpec e at) es xs h = h
-
-sections_same : (sections : List Section) → entry_names (flat_map section_entries sections) ≡ item_names (all_items sections)
-sections_same [] = refl
-sections_same (s ∷ more) = section_same s (flat_map section_entries more) (all_items more) (sections_same more)
+items_same : (xs : List Item) → entry_names (flat_map item_entries xs) ≡ item_names xs
+items_same [] = refl
+items_same (Declares name what at ∷ xs) = ap (λ (l : List Name). name ∷ l) (items_same xs)
+items_same (Assigns left name right at ∷ xs) = items_same xs
+items_same (Defines name right at ∷ xs) = ap (λ (l : List Name). name ∷ l) (items_same xs)
+items_same (Constrains role e at ∷ xs) = items_same xs
 
 -- the entries of a module have the names that it declares
 same_names : (m : Module) → entry_names (entries m) ≡ names_declared (declared_names m)
-same_names m = formals_same 0 m.at m.formals (flat_map section_entries m.sections) (flat_map names_of_item (items m)) (sections_same m.sections)
-
-not_again : (b : Bool) (fault : Fault) → cond b (Some fault) None ≡ None → b ≡ false
-not_again true fault e = cc
-not_again false fault e = refl
+same_names m = formals_same 0 m.at m.formals (flat_map item_entries (items m)) (flat_map names_of_item (items m)) (items_same (items m))
 
 -- without a duplicate, no name was visited before
 unseen : (declared seen : Name → Bool) (ss : List DeclaredName) (name : Name) → duplicate_among_names declared seen ss ≡ None → In name (names_declared ss) → seen name ≡ false
@@ -80,17 +52,17 @@ unseen declared seen [] name h i = absurd i
 unseen declared seen (s ∷ ss) name h (inl e) =
     let a = neither_found (duplicate_declared declared seen s) (duplicate_among_names declared (and_name seen s.name) ss) h in
     let b = neither_found (duplicate_name seen s.at s.name) (duplicate_in_type s.at declared s.type) a.0 in
-    subst (λ (n : Name). seen n ≡ false) e (not_again (seen s.name) _ b.0)
+    subst (λ (n : Name). seen n ≡ false) e (not_broken (seen s.name) _ b.0)
 unseen declared seen (s ∷ ss) name h (inr i) =
     let a = neither_found (duplicate_declared declared seen s) (duplicate_among_names declared (and_name seen s.name) ss) h in
-    (neither _ _ (unseen declared (and_name seen s.name) ss name a.1 i)).0
+    (or_parts _ _ (unseen declared (and_name seen s.name) ss name a.1 i)).0
 
 declared_apart : (declared seen : Name → Bool) (ss : List DeclaredName) → duplicate_among_names declared seen ss ≡ None → Apart (names_declared ss)
 declared_apart declared seen [] h = tt
 declared_apart declared seen (s ∷ ss) h =
     let a = neither_found (duplicate_declared declared seen s) (duplicate_among_names declared (and_name seen s.name) ss) h in
     let same = (bytes_eq-Decides s.name s.name).1 refl in
-    (λ i. let b = neither (seen s.name) (bytes_eq s.name s.name) (unseen declared (and_name seen s.name) ss s.name a.1 i) in cc, declared_apart declared (and_name seen s.name) ss a.1)
+    (λ i. let b = or_parts (seen s.name) (bytes_eq s.name s.name) (unseen declared (and_name seen s.name) ss s.name a.1 i) in cc, declared_apart declared (and_name seen s.name) ss a.1)
 
 -- the module that was found, or the empty one
 pub found_apart : (name : Name) (seen : Name → Bool) (ms : List Module) → duplicate_among_modules seen ms ≡ None → Apart (entry_names (entries (or_empty name (find (λ m. bytes_eq m.name name) ms))))

@@ -17,15 +17,15 @@ use Rattle.smv_meaning.specs.Checking.{IsTableOfProgram, AreRows, instance_at}
 use Rattle.smv_meaning.specs.Items.{Item, Declares, Assigns, Defines, Constrains}
 use Rattle.smv_meaning.specs.ItemIndex.{items_at}
 use Rattle.smv_meaning.proofs.NumberLemmas.{resolve_same}
-use Rattle.smv_cycles.specs.HeldCycles.{OneEach}
+use Rattle.smv_cycles.specs.CyclesBySlot.{OneEach}
 use Rattle.smv_cycles.proofs.HeightLemmas.{in_some}
 use Rattle.smv_cycles.proofs.ProgramLemmas as names
-use Rattle.smv_cycles.proofs.ProgramLemmas.{resolve_slot_is}
+use Rattle.smv_meaning.proofs.BindingLemmas.{resolve_slot_is}
 use Rattle.smv_meaning.proofs.MemberLemmas.{In, in_of, all_in, in_map, from_map, in_either}
 use Rattle.smv_nodes.specs.Own.{saturating_add}
 use Rattle.smv_nodes.specs.Mentions.{Mention, reads_of}
 use Rattle.smv_nodes.specs.Count.{Lookup, content, of_program, ReadExpr, read_now, item_exprs, instance_exprs, own_nodes, Shared, name_nodes, shared_expr, shared_by, shared_among, shared_in, content_reads, names_nodes, expr_nodes, exprs_nodes, exprs_of_shared, ReachedIn, AreReached, IsCount}
-use Rattle.smv_nodes.specs.Held.{of_table, table_exprs}
+use Rattle.smv_nodes.specs.CountBySlot.{of_table, table_exprs}
 use Rattle.smv_types.proofs.ApartLemmas.{Apart, pairs_of, apart_of, contains_in}
 
 module _ (program : Program) (table : InstanceTable) (right : IsTableOfProgram program table) where

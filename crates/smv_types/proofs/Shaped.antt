@@ -1,5 +1,6 @@
 -- Where the rules of the text are kept, choices are where the rules of kinds need them.
 use Rattle.std.proofs.Common.{◌≡◌, Bool, true, false, ◌&&◌, ◌||◌, List, [], ◌∷◌, map, refl, sym, subst, arith}
+use Rattle.std.proofs.lemmas.Bool.{or_parts, and_parts}
 use Rattle.std.specs.Prelude.{ℤ, int_lt, int_le}
 use Rattle.std.specs.List.{list_all, list_any}
 use Rattle.std.proofs.lemmas.Int.{ints}
@@ -11,14 +12,6 @@ use Rattle.smv_shape.specs.Choices as choices
 use Rattle.smv_kinds.specs.Soundness.{Shape, BranchShape, single_shape, choice_shape_layer, expr_shape_layer, branch_shape_layer, shape_of, choice_shape, branch_shape}
 
 -- ---- truth values
-
-pub neither : (v w : Bool) → v || w ≡ false → (v ≡ false) × (w ≡ false)
-neither true w e = cc
-neither false w e = (refl, e)
-
-pub both : (v w : Bool) → v && w ≡ true → (v ≡ true) × (w ≡ true)
-both true w e = (refl, e)
-both false w e = cc
 
 pub together : (v w : Bool) → v ≡ true → w ≡ true → v && w ≡ true
 together true w e f = f
@@ -74,13 +67,13 @@ parts_plain : (xs : List Exprs) → list_any (λ p. p) (map ranges.has_empty (ex
     → list_all (λ p. p.plain) (map shape_of (exprs_of xs)) ≡ true
 parts_plain [] e s = refl
 parts_plain (x ∷ xs) e s =
-    let f = neither _ _ e in
-    let t = neither _ _ s in
+    let f = or_parts _ _ e in
+    let t = or_parts _ _ s in
     together _ _ (x.1.plain f.0 t.0) (parts_plain xs f.1 t.1)
 
 parts_loose : (xs : List Exprs) → list_all (λ p. p.plain) (map shape_of (exprs_of xs)) ≡ true → list_all (λ p. p.free) (map shape_of (exprs_of xs)) ≡ true
 parts_loose [] h = refl
-parts_loose (x ∷ xs) h = let b = both _ _ h in together _ _ (x.1.loose b.0) (parts_loose xs b.1)
+parts_loose (x ∷ xs) h = let b = and_parts _ _ h in together _ _ (x.1.loose b.0) (parts_loose xs b.1)
 
 abbrev branches_of : List Branches → List Branch
 branches_of = map (λ x. x.0)
@@ -89,21 +82,21 @@ arms_plain : (xs : List Branches) → list_any (λ b. b) (map ranges.branch_has_
     → list_all (λ b. b.cond.plain && b.value.plain) (map branch_shape (branches_of xs)) ≡ true
 arms_plain [] e s = refl
 arms_plain (x ∷ xs) e s =
-    let f = neither _ _ e in
-    let t = neither _ _ s in
+    let f = or_parts _ _ e in
+    let t = or_parts _ _ s in
     together _ _ (x.1.plain f.0 t.0) (arms_plain xs f.1 t.1)
 
 arms_free : (xs : List Branches) → list_any (λ b. b) (map ranges.branch_has_empty (branches_of xs)) ≡ false → list_any (λ b. b true) (map choices.branch_has_stray (branches_of xs)) ≡ false
     → list_all (λ b. b.cond.plain && b.value.free) (map branch_shape (branches_of xs)) ≡ true
 arms_free [] e s = refl
 arms_free (x ∷ xs) e s =
-    let f = neither _ _ e in
-    let t = neither _ _ s in
+    let f = or_parts _ _ e in
+    let t = or_parts _ _ s in
     together _ _ (x.1.free f.0 t.0) (arms_free xs f.1 t.1)
 
 arms_loose : (xs : List Branches) → list_all (λ b. b.cond.plain && b.value.plain) (map branch_shape (branches_of xs)) ≡ true → list_all (λ b. b.cond.plain && b.value.free) (map branch_shape (branches_of xs)) ≡ true
 arms_loose [] h = refl
-arms_loose (x ∷ xs) h = let b = both _ _ h in together _ _ (x.1.loose b.0) (arms_loose xs b.1)
+arms_loose (x ∷ xs) h = let b = and_parts _ _ h in together _ _ (x.1.loose b.0) (arms_loose xs b.1)
 
 -- ---- layer by layer
 
@@ -147,8 +140,8 @@ expr_tame (Expr-F.Number n) = single_tame _ _ _ (λ allowed e s. refl)
 expr_tame (Expr-F.Name path) = single_tame _ _ _ (λ allowed e s. refl)
 expr_tame (Expr-F.Neg a) = single_tame _ _ _ (λ allowed e s. a.1.plain e s)
 expr_tame (Expr-F.Not a) = single_tame _ _ _ (λ allowed e s. a.1.plain e s)
-expr_tame (Expr-F.Binary op a b) = single_tame _ _ _ (λ allowed e s. let f = neither _ _ e in let t = neither _ _ s in together _ _ (a.1.plain f.0 t.0) (b.1.plain f.1 t.1))
-expr_tame (Expr-F.Within a c) = single_tame _ _ _ (λ allowed e s. let f = neither _ _ e in let t = neither _ _ s in together _ _ (a.1.plain f.0 t.0) (c.1.plain f.1 t.1))
+expr_tame (Expr-F.Binary op a b) = single_tame _ _ _ (λ allowed e s. let f = or_parts _ _ e in let t = or_parts _ _ s in together _ _ (a.1.plain f.0 t.0) (b.1.plain f.1 t.1))
+expr_tame (Expr-F.Within a c) = single_tame _ _ _ (λ allowed e s. let f = or_parts _ _ e in let t = or_parts _ _ s in together _ _ (a.1.plain f.0 t.0) (c.1.plain f.1 t.1))
 expr_tame (Expr-F.Cases branches) = record { plain = arms_plain branches; free = arms_free branches; loose = arms_loose branches }
 expr_tame (Expr-F.Next a) = single_tame _ _ _ (λ allowed e s. a.1.plain e s)
 expr_tame (Expr-F.Pick c) = record { plain = λ e s. cc; free = λ e s. c.1.free e s; loose = λ h. cc }
@@ -172,9 +165,9 @@ arm_stray cond value allowed = choices.has_stray_choice cond false || choices.ha
 -- a branch of tame parts
 arm_tame : (x y : Exprs) → TameBranch (ranges.has_empty x.0 || ranges.has_empty y.0) (arm_stray x.0 y.0) (record { cond = shape_of x.0; value = shape_of y.0 })
 arm_tame x y = record {
-  plain = λ e s. let f = neither _ _ e in let t = neither _ _ s in together _ _ (x.1.plain f.0 t.0) (y.1.plain f.1 t.1);
-  free = λ e s. let f = neither _ _ e in let t = neither _ _ s in together _ _ (x.1.plain f.0 t.0) (y.1.free f.1 t.1);
-  loose = λ h. let b = both _ _ h in together _ _ b.0 (y.1.loose b.1);
+  plain = λ e s. let f = or_parts _ _ e in let t = or_parts _ _ s in together _ _ (x.1.plain f.0 t.0) (y.1.plain f.1 t.1);
+  free = λ e s. let f = or_parts _ _ e in let t = or_parts _ _ s in together _ _ (x.1.plain f.0 t.0) (y.1.free f.1 t.1);
+  loose = λ h. let b = and_parts _ _ h in together _ _ b.0 (y.1.loose b.1);
 }
 
 branch_step : (x y : Exprs) → TameArm (roll-Branch (record { cond = x.0; value = y.0 }))

@@ -1,17 +1,17 @@
 -- A program whose text keeps the rules has its choices where the rules of kinds need them.
-use Rattle.std.proofs.Common.{◌≡◌, Bool, true, false, cond, List, [], ◌∷◌, ◌++◌, Option, Some, None, refl, sym, ap, ◌∙◌}
+use Rattle.std.proofs.Common.{◌≡◌, Bool, true, false, cond, List, [], ◌∷◌, ◌++◌, Some, None, refl, sym, ap, ◌∙◌}
+use Rattle.std.proofs.lemmas.Bool.{or_parts}
 use Rattle.std.specs.Prelude.{find}
 use Rattle.std.specs.List.{list_all, list_any, flat_map}
 use Rattle.std.specs.Str.{bytes_eq}
 use Rattle.smv_ast.specs.declared.syntax.Expr.{Expr}
 use Rattle.smv_ast.specs.declared.program.Module.{Module}
 use Rattle.smv_ast.specs.declared.program.Program.{Program}
-use Rattle.smv_ast.specs.declared.fault.Fault.{Fault}
 use Rattle.smv_meaning.specs.Value.{Name}
 use Rattle.smv_meaning.specs.Instances.{Instance, or_empty, module_at, called_at, instances}
 use Rattle.smv_meaning.specs.Runs.{or_else, first_fault}
 use Rattle.smv_meaning.specs.Items.{Item, Declares, Assigns, Defines, Constrains, at_of, declared_exprs, items, program_items}
-use Rattle.smv_meaning.proofs.FirstFault.{first_append}
+use Rattle.smv_meaning.proofs.FirstFault.{first_append, neither_found, not_broken}
 use Rattle.smv_shape.specs.declared.rule.Rule.TheVariants as rule
 use Rattle.smv_shape.specs.Rules as rules
 use Rattle.smv_shape.specs.Ranges.{has_empty}
@@ -19,17 +19,9 @@ use Rattle.smv_shape.specs.Choices.{has_stray_choice}
 use Rattle.smv_shape.specs.Assigned.{parameter_fault, double_fault}
 use Rattle.smv_shape.specs.Shape.{shape_fault}
 use Rattle.smv_kinds.specs.Soundness.{shape_of, is_shaped, AreShaped}
-use Rattle.smv_types.proofs.Shaped.{neither, together, plain_of, free_of}
+use Rattle.smv_types.proofs.Shaped.{together, plain_of, free_of}
 
 -- ---- without faults
-
-pub neither_found : {A : Type 0} (a b : Option A) → or_else a b ≡ None → (a ≡ None) × (b ≡ None)
-neither_found None b e = (refl, e)
-neither_found (Some x) b e = cc
-
-not_broken : (broken : Bool) (f : Fault) → cond broken (Some f) None ≡ None → broken ≡ false
-not_broken true f e = cc
-not_broken false f e = refl
 
 -- ---- items
 
@@ -60,18 +52,18 @@ both_keep xs ys k =
 exprs_plain : (item : Item) → rules.may_choose item ≡ false → (actuals : List Expr) → list_any (rules.expr_breaks rule.Ranges item) actuals ≡ false → list_any (rules.expr_breaks rule.Choices item) actuals ≡ false → list_all (λ e. (shape_of e).plain) actuals ≡ true
 exprs_plain item none [] r c = refl
 exprs_plain item none (e ∷ actuals) r c =
-    let a = neither (rules.expr_breaks rule.Ranges item e) (list_any (rules.expr_breaks rule.Ranges item) actuals) r in
-    let b = neither (rules.expr_breaks rule.Choices item e) (list_any (rules.expr_breaks rule.Choices item) actuals) c in
+    let a = or_parts (rules.expr_breaks rule.Ranges item e) (list_any (rules.expr_breaks rule.Ranges item) actuals) r in
+    let b = or_parts (rules.expr_breaks rule.Choices item e) (list_any (rules.expr_breaks rule.Choices item) actuals) c in
     together _ _ (plain_of e a.0 (ap (has_stray_choice e) (sym none) ∙ b.0)) (exprs_plain item none actuals a.1 b.1)
 
 -- the choices of an item without a broken rule are where they may be
 item_shaped : (item : Item) → KeepsItem item → is_shaped item ≡ true
 item_shaped (Declares name what at) k =
     let item = Declares name what at in
-    let a = neither (rules.type_breaks rule.Ranges item) (list_any (rules.expr_breaks rule.Ranges item) (declared_exprs what)) k.ranges in
-    let b = neither (rules.type_breaks rule.Choices item) (list_any (rules.expr_breaks rule.Choices item) (declared_exprs what)) k.choices in
+    let a = or_parts (rules.type_breaks rule.Ranges item) (list_any (rules.expr_breaks rule.Ranges item) (declared_exprs what)) k.ranges in
+    let b = or_parts (rules.type_breaks rule.Choices item) (list_any (rules.expr_breaks rule.Choices item) (declared_exprs what)) k.choices in
     exprs_plain item refl (declared_exprs what) a.1 b.1
-item_shaped (Assigns left name right at) k = free_of right (neither (has_empty right) false k.ranges).0 (neither (has_stray_choice right true) false k.choices).0
+item_shaped (Assigns left name right at) k = free_of right (or_parts (has_empty right) false k.ranges).0 (or_parts (has_stray_choice right true) false k.choices).0
 item_shaped (Defines name right at) k = exprs_plain (Defines name right at) refl (right ∷ []) k.ranges k.choices
 item_shaped (Constrains r e at) k = exprs_plain (Constrains r e at) refl (e ∷ []) k.ranges k.choices
 

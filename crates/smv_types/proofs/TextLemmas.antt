@@ -1,5 +1,6 @@
 -- The texts of instances and of variables of a model without a fault of names, whose names contain no dot, are pairwise different.
-use Rattle.std.proofs.Common.{◌≡◌, ◌≢◌, ℕ, zero, suc, ◌⊎◌, inl, inr, Bool, true, false, cond, List, [], ◌∷◌, ◌++◌, map, Some, None, codes, refl, sym, ap, ◌∙◌, subst, arith}
+use Rattle.std.proofs.Common.{◌≡◌, ℕ, zero, suc, ◌⊎◌, inl, inr, Bool, true, false, cond, List, [], ◌∷◌, ◌++◌, map, Some, None, codes, refl, sym, ap, ◌∙◌, subst, arith}
+use Rattle.std.proofs.lemmas.Bool.{or_parts}
 use Rattle.std.specs.Prelude.{find, All}
 use Rattle.std.specs.List.{flat_map}
 use Rattle.std.specs.Str.{bytes_eq}
@@ -7,17 +8,16 @@ use Rattle.smv_ast.specs.PrintedExpr.{joined, each_after}
 use Rattle.smv_ast.specs.declared.program.Module.{Module}
 use Rattle.smv_ast.specs.declared.program.Program.{Program}
 use Rattle.smv_meaning.specs.Value.{Name}
-use Rattle.smv_meaning.specs.Instances.{Entity, Variable, Inner, Defined, Formal, Entry, Instance, Main, Within, entries, or_empty, module_named, module_at, goes_deeper, inner_of, inner_instances, subtree, instances, path_of, instance_text, called_at}
+use Rattle.smv_meaning.specs.Instances.{Entity, Variable, Inner, Defined, Formal, Entry, Instance, Main, Within, entries, or_empty, module_at, goes_deeper, inner_of, inner_instances, subtree, instances, path_of, instance_text, called_at}
 use Rattle.smv_meaning.specs.Runs.{VariableAt, variable_of, variables, path_text, or_else}
 use Rattle.smv_names.specs.Duplicates.{duplicate_fault}
-use Rattle.smv_names.specs.Sets.{no_name}
+use Rattle.smv_meaning.specs.NameSets.{no_name}
 use Rattle.smv_names.specs.NamesFault.{names_fault, module_fault, instance_fault}
 use Rattle.smv_meaning.proofs.MemberLemmas.{In, all_in, from_map, from_flat, inner_is, outer_in}
 use Rattle.smv_types.specs.Checks.{has_dot, AreDotless, HaveDistinctTexts}
-use Rattle.smv_types.proofs.Shaped.{neither}
-use Rattle.smv_types.proofs.ShapedPrograms.{neither_found}
+use Rattle.smv_meaning.proofs.FirstFault.{neither_found}
 use Rattle.smv_types.proofs.ApartLemmas.{Apart, pairs_of, apart_of, apart_before, one_source, flat_apart}
-use Rattle.smv_types.proofs.DistinctLemmas.{last_name, inner_named, found_apart, instances_apart}
+use Rattle.smv_types.proofs.DistinctLemmas.{inner_named, found_apart, instances_apart}
 
 -- ---- joined names
 
@@ -42,7 +42,7 @@ first_name (c ∷ a) [] xs (y ∷ ys) d f e = absurd (dot_first c a d (cc))
 first_name (c ∷ a) (g ∷ b) xs ys d f e =
     let head : c ≡ g = (cc) in
     let tail : a ++ each_after (codes ".") xs ≡ b ++ each_after (codes ".") ys = (cc) in
-    let r = first_name a b xs ys (neither _ _ d).1 (neither _ _ f).1 tail in
+    let r = first_name a b xs ys (or_parts _ _ d).1 (or_parts _ _ f).1 tail in
     (ap (λ z. z ∷ a) head ∙ ap (λ n. g ∷ n) r.0, r.1)
 
 after_same : (xs ys : List Name) → Dotless xs → Dotless ys → each_after (codes ".") xs ≡ each_after (codes ".") ys → xs ≡ ys

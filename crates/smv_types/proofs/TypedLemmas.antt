@@ -1,22 +1,15 @@
--- The texts of instances, by row; and the result of a passed check.
-use Rattle.std.proofs.Common.{◌≡◌, ◌≢◌, ℕ, ◌<◌, List, length, map, AllPairs, None, sym, ap, ◌∙◌, subst, get_or}
+-- The result of a passed check.
+use Rattle.std.proofs.Common.{◌≡◌, ◌≢◌, ℕ, List, length, map, AllPairs, None, sym, ap, ◌∙◌, subst}
 use Rattle.std.proofs.lemmas.List.{length-map}
 use Rattle.smv_ast.specs.declared.program.Program.{Program}
-use Rattle.smv_meaning.specs.declared.table.Row.{Row}
 use Rattle.smv_meaning.specs.declared.table.InstanceTable.{InstanceTable}
-use Rattle.smv_meaning.specs.Instances.{Instance, instance_text, path_of, instances}
-use Rattle.smv_meaning.specs.Runs.{path_text}
+use Rattle.smv_meaning.specs.Instances.{Instance, instances}
 use Rattle.smv_meaning.specs.ItemIndex.{items_at}
-use Rattle.smv_meaning.specs.RunCheck.{text_of_instance}
 use Rattle.smv_meaning.specs.Checking.{IsTableOfProgram, AreRows, instance_at}
-use Rattle.smv_meaning.specs.Valuation.{AreLinked, ArePathTexts}
-use Rattle.smv_meaning.proofs.RunLemmas.{instance_text_is}
-use Rattle.smv_meaning.proofs.InstanceTableLemmas.{get_within}
-use Rattle.smv_meaning.proofs.ValuationLemmas.{get_item}
 use Rattle.smv_names.specs.NamesFault.{names_fault}
 use Rattle.smv_shape.specs.Shape.{shape_fault}
 use Rattle.smv_meaning.specs.Faults.{ReportsFirst}
-use Rattle.smv_cycles.specs.HeldCycles.{OneEach}
+use Rattle.smv_cycles.specs.CyclesBySlot.{OneEach}
 use Rattle.smv_cycles.specs.Cycles.{cycles_fault}
 use Rattle.smv_cycles.specs.Heights.{HaveHeights}
 use Rattle.smv_cycles.proofs.HeightLaw.{have_heights}
@@ -26,23 +19,15 @@ use Rattle.smv_ast.specs.declared.fault.Fault.{Fault}
 use Rattle.fsmv_base.specs.declared.no_memory.NoMemory.{NoMemory}
 use Rattle.smv_kinds.specs.Soundness.{AreShaped, IsSound}
 use Rattle.smv_nodes.specs.Count.{of_program, instance_exprs, program_exprs, IsCount, HasNodes}
-use Rattle.smv_nodes.specs.Held.{of_table, table_exprs}
+use Rattle.smv_nodes.specs.CountBySlot.{of_table, table_exprs}
 use Rattle.smv_types.specs.Checks.{text_fault, read_fault, AreApart, AreDotless, HaveDistinctTexts, IsNodes}
 use Rattle.smv_types.proofs.TextLemmas.{distinct_texts}
-use Rattle.smv_types.proofs.ShapedPrograms.{neither_found, are_shaped}
+use Rattle.smv_meaning.proofs.FirstFault.{neither_found}
+use Rattle.smv_types.proofs.ShapedPrograms.{are_shaped}
 use Rattle.smv_types.proofs.DistinctLemmas.{instances_apart}
 use Rattle.smv_types.proofs.ApartLemmas.{one_each}
 use Rattle.smv_types.proofs.OnlyLemmas.{one_count}
 use Rattle.smv_types.proofs.NodeLemmas.{table_count}
-
-pub row_text_is : (table : InstanceTable) (texts : List (List ℕ)) (k : ℕ) (row : Row) (text : List ℕ) → AreLinked table.rows → ArePathTexts table.rows texts → k < length table.rows → row ≡ get_or table.rows k row → text ≡ get_or texts k text
-    → text_of_instance row.link text ≡ instance_text (instance_at table k)
-row_text_is table texts k row text linked is_of h e f =
-    let at = get_item table.rows k row h e in
-    let reported = is_of k row at in
-    let here = get_item texts k text (get_within texts k _ reported) f in
-    let same : text ≡ path_text (path_of (instance_at table k)) = cc (here, reported) in
-    ap (text_of_instance row.link) same ∙ sym (instance_text_is table texts k row linked at)
 
 -- the choices of a model without a fault of its text are where they may be
 pub text_shaped : (program : Program) → text_fault program ≡ None → AreShaped program

@@ -1,14 +1,12 @@
 //! The static checks of a model, and the data of a model that passed them.
 
-ghost use Rattle.std.specs.Prelude.{◌≡◌, ◌<◌, ◌++◌, length, map, IfOk, codes};
+ghost use Rattle.std.specs.Prelude.{◌≡◌, length, map, IfOk};
 ghost use Rattle.smv_meaning.specs.Faults.{ReportsFirst};
-ghost use Rattle.smv_meaning.specs.Instances.{instances, instance_text};
-ghost use Rattle.smv_meaning.specs.Scopes.{scope_view, scopes_of as scopes_of_program};
+ghost use Rattle.smv_meaning.specs.Instances.{instances, instance_text as text_of};
 ghost use Rattle.smv_meaning.specs.Checking as checking;
 ghost use Rattle.smv_meaning.specs.Slots as slots;
 ghost use Rattle.smv_meaning.specs.Valuation as valuation;
-ghost use Rattle.smv_meaning.specs.RunCheck.{text_of_instance};
-ghost use Rattle.smv_cycles.specs.HeldCycles.{OneEach};
+ghost use Rattle.smv_cycles.specs.CyclesBySlot.{OneEach};
 ghost use Rattle.smv_cycles.specs.Heights.{HaveHeights};
 ghost use Rattle.smv_kinds.specs.Soundness as soundness;
 ghost use Rattle.smv_types.specs.Checks as spec;
@@ -17,10 +15,10 @@ use smv_ast::{Fault, List, NoMemory, Program, Text};
 use smv_cycles::check_cycles;
 use smv_kinds::check_kinds;
 use smv_meaning::aliases::aliases_of;
-use smv_meaning::instance_texts::path_texts;
+use smv_meaning::instance_texts::{instance_text, path_texts};
 use smv_meaning::order::order_of;
-use smv_meaning::scope::{Scope, scopes_of};
-use smv_meaning::table::{InstanceTable, Link, instance_table};
+use smv_meaning::scope::scopes_of;
+use smv_meaning::table::{InstanceTable, whole_table};
 use smv_names::check_names;
 use smv_nodes::count_nodes;
 use smv_shape::check_shape;
@@ -36,37 +34,6 @@ pub struct Typed {
     pub nodes: u64,
 }
 
-/// The text of an instance with this link, given the text of its path.
-fn link_text(alloc: Global, link: Option<Link>, path: &str) -> Result<Text, NoMemory>
-    ensures { IfOk result (λ t. t ≡ text_of_instance link.entry path.now) }
-{
-    if link.is_none() {
-        return Text::from_str(alloc, "main");
-    }
-    let mut text = String::from_str(alloc, "main")?;
-    text.push_str(".")?;
-    text.push_str(path)?;
-    Text::from_str(alloc, text.as_str())
-}
-
-/// The text of the instance of a row.
-fn row_text(
-    alloc: Global,
-    table: &InstanceTable,
-    texts: &[Text],
-    row: usize,
-) -> Result<Text, NoMemory>
-    requires row { row < length table.now.rows }
-    requires linked { valuation.AreLinked table.now.rows }
-    requires texts { valuation.ArePathTexts table.now.rows texts.now }
-    ensures { IfOk result (λ t. t ≡ instance_text (checking.instance_at table.now row)) }
-{
-    let rows = table.rows.as_slice();
-    let link = rows[row].link;
-    let path = texts[row].as_str();
-    link_text(alloc, link, path)
-}
-
 /// The texts of these instances.
 fn row_texts(
     alloc: Global,
@@ -78,76 +45,17 @@ fn row_texts(
     requires linked { valuation.AreLinked table.now.rows }
     requires texts { valuation.ArePathTexts table.now.rows texts.now }
     ensures { IfOk result (λ found. found
-        ≡ map instance_text (map (checking.instance_at table.now) order.now)) }
+        ≡ map text_of (map (checking.instance_at table.now) order.now)) }
 {
     let mut found = List::new(alloc);
     for row in order {
-        let text = row_text(alloc, table, texts, *row)?;
+        let text = instance_text(alloc, table, texts, *row)?;
         found.push(text)?;
     }
     Ok(found)
 }
 
-/// The number of nodes of a model with this instance table, in which each instance stands once.
-fn model_nodes(
-    alloc: Global,
-    program: &Program,
-    table: &InstanceTable,
-    order: &[usize],
-    aliases: &[Option<usize>],
-) -> Result<u64, NoMemory>
-    requires right { checking.IsTableOfProgram program.now table.now }
-    requires rows { checking.AreRows table.now order.now }
-    requires order { map (checking.instance_at table.now) order.now ≡ instances program.now }
-    requires aliases { slots.AreAliases table.now aliases.now }
-    requires one { OneEach table.now }
-    ensures { IfOk result (spec.IsNodes program.now) }
-{
-    count_nodes(alloc, program, table, aliases, order)
-}
-
-/// The data of a model with this instance table, in which each instance stands once, in this order.
-fn typed_of(
-    alloc: Global,
-    program: &Program,
-    table: &InstanceTable,
-    order: &[usize],
-    aliases: &[Option<usize>],
-) -> Result<Typed, NoMemory>
-    requires right { checking.IsTableOfProgram program.now table.now }
-    requires rows { checking.AreRows table.now order.now }
-    requires order { map (checking.instance_at table.now) order.now ≡ instances program.now }
-    requires aliases { slots.AreAliases table.now aliases.now }
-    requires one { OneEach table.now }
-    ensures { IfOk result (spec.IsTyped program.now) }
-{
-    let texts = path_texts(alloc, table.rows.as_slice())?;
-    let instances = row_texts(alloc, table, texts.as_slice(), order)?;
-    let nodes = model_nodes(alloc, program, table, order, aliases)?;
-    Ok(Typed { instances, nodes })
-}
-
-/// The checks of cycles, nesting, kinds and intervals.
-fn check_reads(
-    alloc: Global,
-    program: &Program,
-    table: &InstanceTable,
-    order: &[usize],
-    aliases: &[Option<usize>],
-) -> Result<(), Fault>
-    requires right { checking.IsTableOfProgram program.now table.now }
-    requires rows { checking.AreRows table.now order.now }
-    requires order { map (checking.instance_at table.now) order.now ≡ instances program.now }
-    requires aliases { slots.AreAliases table.now aliases.now }
-    requires one { OneEach table.now }
-    ensures first { ReportsFirst (spec.read_fault program.now) result }
-    ensures sound { IfOk result
-        (λ _. soundness.AreShaped program.now → soundness.IsSound program.now) }
-{
-    check_cycles(alloc, program, table, order, aliases)?;
-    check_kinds(alloc, program, table, order, aliases)
-}
-
+/// The checks of cycles, nesting, kinds and intervals, and the data of a model that passed them.
 fn check_rows(
     alloc: Global,
     program: &Program,
@@ -165,8 +73,12 @@ fn check_rows(
     ensures sound { IfOk result
         (λ _. soundness.AreShaped program.now → soundness.IsSound program.now) }
 {
-    check_reads(alloc, program, table, order, aliases)?;
-    Ok(typed_of(alloc, program, table, order, aliases)?)
+    check_cycles(alloc, program, table, order, aliases)?;
+    check_kinds(alloc, program, table, order, aliases)?;
+    let texts = path_texts(alloc, table.rows.as_slice())?;
+    let instances = row_texts(alloc, table, texts.as_slice(), order)?;
+    let nodes = count_nodes(alloc, program, table, aliases, order)?;
+    Ok(Typed { instances, nodes })
 }
 
 fn check_table(alloc: Global, program: &Program, table: &InstanceTable) -> Result<Typed, Fault>
@@ -181,21 +93,6 @@ fn check_table(alloc: Global, program: &Program, table: &InstanceTable) -> Resul
     let aliases = aliases_of(alloc, table)?;
     let order = order_of(alloc, program, table)?;
     check_rows(alloc, program, table, order.as_slice(), aliases.as_slice())
-}
-
-fn check_scopes(alloc: Global, program: &Program, scopes: &[Scope]) -> Result<Typed, Fault>
-    requires scopes { map scope_view scopes.now ≡ scopes_of_program program.now }
-    requires apart { spec.AreApart program.now }
-    ensures first { ReportsFirst (spec.read_fault program.now) result }
-    ensures typed { IfOk result (spec.IsTyped program.now) }
-    ensures sound { IfOk result
-        (λ _. soundness.AreShaped program.now → soundness.IsSound program.now) }
-{
-    match instance_table(alloc, program, scopes, usize::MAX)? {
-        Some(table) => check_table(alloc, program, &table),
-        // No table in memory has that many instances.
-        None => Err(Fault::NoMemory),
-    }
 }
 
 /// The rules on the names and on the text of a model.
@@ -238,5 +135,6 @@ pub fn check(alloc: Global, program: &Program) -> Result<Typed, Fault>
 {
     check_text(alloc, program)?;
     let scopes = scopes_of(alloc, program)?;
-    check_scopes(alloc, program, scopes.as_slice())
+    let table = whole_table(alloc, program, scopes.as_slice())?;
+    check_table(alloc, program, &table)
 }

@@ -1,36 +1,30 @@
-use Rattle.std.proofs.Common.{◌≡◌, ◌<◌, ◌+◌, ◌++◌, ◌∷◌, List, [], ℕ, Bool, true, false, not, cond, length, get_or, take, subst, sym, ap, ◌∙◌, arith, append-nil}
-use Rattle.std.specs.Prelude.{filter}
-use Rattle.std.proofs.lemmas.List.Elements.{filter_more}
+use Rattle.std.proofs.Common.{◌≡◌, ◌<◌, ◌*◌, ◌∙◌, [], Bool, length, get_or, arith, refl}
+use Rattle.std.proofs.lemmas.List.{length-map}
 use Rattle.fsmv_base.specs.declared.citation.Id.TheVariants.{Axiom}
 use Rattle.sat_arena.specs.Stored.{Stored}
 use Rattle.sat_arena.specs.Trails.{marked}
-use Rattle.sat_arena.specs.ArenaState.{ArenaState, is_satisfied}
+use Rattle.sat_arena.specs.ArenaState.{is_satisfied}
+use Rattle.sat_arena.proofs.ReclaimLemmas.{AreCopied-next, AreCopied-none, AreCopied-all}
 use Rattle.sat_arena.proofs.arena.copy_kept.Goals as goal
-use Rattle.sat_arena.proofs.arena.copy_kept.Goals.{then-not-is_satisfied+in_ok-copy_to, else-not-is_satisfied}
 
--- the clauses that pass, up to one more
-passes : (keep : Stored → Bool) (stored kept kept' : List Stored) (at : ℕ) (d : Stored) → at < length stored → keep (get_or stored at d) ≡ true → kept ≡ filter keep (take at stored) → kept' ≡ kept ++ get_or stored at d ∷ [] → kept' ≡ filter keep (take (at + 1) stored)
-passes keep stored kept kept' at d within kept_here before after =
-    after ∙ ap (λ (xs : List Stored). xs ++ get_or stored at d ∷ []) before
-    ∙ sym (filter_more keep stored at d within ∙ ap (λ b. filter keep (take at stored) ++ cond b (get_or stored at d ∷ []) []) kept_here)
-
-fails : (keep : Stored → Bool) (stored kept : List Stored) (at : ℕ) (d : Stored) → at < length stored → keep (get_or stored at d) ≡ false → kept ≡ filter keep (take at stored) → kept ≡ filter keep (take (at + 1) stored)
-fails keep stored kept at d within left_out before =
-    before ∙ sym (filter_more keep stored at d within ∙ ap (λ b. filter keep (take at stored) ++ cond b (get_or stored at d ∷ []) []) left_out ∙ append-nil (filter keep (take at stored)))
+pub loop-at-init : goal.loop-at-init
+loop-at-init c = record {
+  vars = refl;
+  copied = AreCopied-none (is_satisfied (marked c.args.literal_set.now)) c.args.arena.now c.args.kept.now c.requires.none c.requires.no_watches c.requires.no_moves;
+}
 
 pub loop-at-preserved : goal.loop-at-preserved
 loop-at-preserved c =
     let d : Stored = record { clause = []; id = Axiom 0 } in
-    let keep : Stored → Bool = λ s. not (is_satisfied (marked c.args.literal_set.now) s) in
-    let stored = c.args.arena.now.stored in
-    let within : c.loop-at.at < length stored = omega (arith, c.loop-at-test.true, c.len-at-end.ensures.len) in
-    elim c.if-not-is_satisfied.branch [
-      | then-not-is_satisfied+in_ok-copy_to w ↦ record {
-        vars = ap (λ (a : ArenaState). a.vars) w.kept-is ∙ w.in_ok-copy_to.ensures.vars ∙ c.loop-at.invariant.vars;
-        stored = ap (λ (a : ArenaState). a.stored) w.kept-is ∙ passes keep stored c.loop-at.kept.stored w.copy_to.new.kept.stored c.loop-at.at d within (ap not (sym (c.is_satisfied.ensures d) ∙ w.if-not-is_satisfied.true)) c.loop-at.invariant.stored (w.in_ok-copy_to.ensures.ok d);
-      }
-      | else-not-is_satisfied w ↦ record {
-        vars = ap (λ (a : ArenaState). a.vars) w.kept-is ∙ c.loop-at.invariant.vars;
-        stored = ap (λ (a : ArenaState). a.stored) w.kept-is ∙ fails keep stored c.loop-at.kept.stored c.loop-at.at d within (ap not (sym (c.is_satisfied.ensures d) ∙ w.if-not-is_satisfied.false)) c.loop-at.invariant.stored;
-      }
-    ]
+    let gone : Stored → Bool = is_satisfied (marked c.args.literal_set.now) in
+    let source = c.args.arena.now in
+    let two : length source.watched ≡ 2 * length source.stored = omega (arith, c.len-at-end.ensures.watches.two_each, length-map source.stored (λ s. s.clause)) in
+    let within : c.loop-at.at < length source.stored = omega (arith, c.loop-at-test.true, c.len-at-end.ensures.len) in
+    record {
+      vars = c.copy_unless_satisfied.ensures.vars ∙ c.loop-at.invariant.vars;
+      copied = AreCopied-next gone source c.loop-at.kept c.copy_unless_satisfied.new.kept c.loop-at.at d within two c.loop-at.invariant.copied (c.in_ok-copy_unless_satisfied.ensures.ok d);
+    }
+
+pub returns-clause-ok : goal.returns-clause-ok
+returns-clause-ok c =
+    AreCopied-all (is_satisfied (marked c.args.literal_set.now)) c.args.arena.now c.loop-at.kept c.loop-at.at (omega (arith, c.loop-at-test.false, c.len-at-end.ensures.len)) c.loop-at.invariant.copied

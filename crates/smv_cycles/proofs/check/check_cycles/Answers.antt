@@ -4,7 +4,7 @@ use Rattle.smv_meaning.specs.Faults.{ReportsFirst}
 use Rattle.fixpoint.specs.Fixpoints.{entry}
 use Rattle.smv_meaning.proofs.NumberLemmas.{has_slots, are_linked}
 use Rattle.smv_cycles.specs.Reads.{heights}
-use Rattle.smv_cycles.specs.Held.{edges_at}
+use Rattle.smv_cycles.specs.EdgesBySlot.{edges_at}
 use Rattle.smv_cycles.proofs.FaultLemmas.{faults_are}
 use Rattle.smv_cycles.proofs.check.check_cycles.Goals as goal
 

@@ -1,5 +1,5 @@
 use Rattle.std.proofs.Common.{◌≡◌, ◌++◌, map, drop}
-use Rattle.smv_cycles.specs.Held as spec
+use Rattle.smv_cycles.specs.EdgesBySlot as spec
 use Rattle.smv_cycles.specs.Nodes as trees
 use Rattle.smv_cycles.proofs.edges.edges_of_nodes.Given as goal
 

@@ -1,6 +1,6 @@
 use Rattle.std.proofs.Common.{◌≡◌, ◌++◌, map, drop}
 use Rattle.std.specs.Option.{option_map}
-use Rattle.smv_cycles.specs.Held as spec
+use Rattle.smv_cycles.specs.EdgesBySlot as spec
 use Rattle.smv_cycles.proofs.edges.graph_of.Given as goal
 
 abbrev pub invariant-loop-slot : goal.invariant-loop-slot

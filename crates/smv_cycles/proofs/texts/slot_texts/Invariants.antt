@@ -1,5 +1,5 @@
 use Rattle.std.proofs.Common.{◌≡◌, ◌++◌, drop}
-use Rattle.smv_cycles.specs.HeldCycles as spec
+use Rattle.smv_cycles.specs.CyclesBySlot as spec
 use Rattle.smv_cycles.proofs.texts.slot_texts.Given as goal
 
 abbrev pub invariant-loop-k : goal.invariant-loop-k

@@ -8,7 +8,7 @@ use Rattle.smv_meaning.proofs.check.check_run.Goals as goal
 
 pub returns-clause-exact : goal.returns-clause-exact
 returns-clause-exact c =
-    subst (λ (x : RunAnswer). IfOk c.run_of_scopes.result (λ a. a ≡ x)) (ap (written_answer c.args.program.now) c.as_slice-2.ensures ∙ answer_same c.args.program.now c.args.run.now.states) c.run_of_scopes.ensures
+    subst (λ (x : RunAnswer). IfOk c.run_of_program.result (λ a. a ≡ x)) (ap (written_answer c.args.program.now) c.as_slice.ensures ∙ answer_same c.args.program.now c.args.run.now.states) c.run_of_program.ensures
 
 pub returns-clause-law : goal.returns-clause-law
 returns-clause-law c =

@@ -1,5 +1,5 @@
 use Rattle.std.proofs.Common.{◌∷◌, [], length, ap, arith, length-append}
-use Rattle.smv_meaning.proofs.InstanceTableLemmas.{get_within}
+use Rattle.std.proofs.lemmas.Option.{slice_get_within}
 use Rattle.smv_meaning.proofs.ValuationLemmas.{get_item}
 use Rattle.smv_meaning.proofs.RunLemmas.{tables_more}
 use Rattle.smv_meaning.proofs.check.tables_of.Goals as goal
@@ -12,4 +12,4 @@ loop-state-preserved c = record {
 }
 
 pub returns : goal.returns
-returns c = λ k state e. c.loop-state.invariant.known_of k state (omega (arith, get_within c.args.states.now k state e)) e
+returns c = λ k state e. c.loop-state.invariant.known_of k state (omega (arith, slice_get_within c.args.states.now k state e)) e

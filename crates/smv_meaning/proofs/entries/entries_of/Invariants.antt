@@ -1,6 +1,7 @@
 use Rattle.std.proofs.Common.{◌≡◌, ◌++◌, drop}
 use Rattle.std.specs.List.{flat_map}
-use Rattle.smv_meaning.specs.Instances.{formals_from, section_entries, entries}
+use Rattle.smv_meaning.specs.Instances.{formals_from, item_entries, entries}
+use Rattle.smv_meaning.specs.Items.{items_view}
 use Rattle.smv_meaning.specs.Entries.{entries_view}
 use Rattle.smv_meaning.proofs.entries.entries_of.Given as goal
 
@@ -10,5 +11,5 @@ invariant-loop-name l = record {
   count : l.number ≡ l.name-index;
 }
 
-abbrev pub invariant-loop-section : goal.invariant-loop-section
-invariant-loop-section l = entries_view l.entries ++ flat_map section_entries (drop l.section-index l.owner.sections) ≡ entries l.owner
+abbrev pub invariant-loop-item : goal.invariant-loop-item
+invariant-loop-item l = entries_view l.entries ++ flat_map item_entries (items_view (drop l.item-index l.item-items)) ≡ entries l.owner

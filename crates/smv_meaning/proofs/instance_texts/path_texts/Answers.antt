@@ -1,6 +1,6 @@
 use Rattle.std.proofs.Common.{◌∷◌, [], List, ℕ, length, ap, ◌∙◌, arith, length-append}
+use Rattle.std.proofs.lemmas.Option.{slice_get_within}
 use Rattle.smv_meaning.specs.Valuation.{row_text}
-use Rattle.smv_meaning.proofs.InstanceTableLemmas.{get_within}
 use Rattle.smv_meaning.proofs.ValuationLemmas.{reports_more, within_rows, get_item, spells}
 use Rattle.smv_meaning.proofs.instance_texts.path_texts.Goals as goal
 
@@ -24,7 +24,7 @@ loop-row-preserved c =
     }
 
 pub returns-clause-names : goal.returns-clause-names
-returns-clause-names c = spells c.args.rows.now c.loop-row.texts c.requires (λ k row e. c.loop-row.invariant.known_of k row (omega (arith, get_within c.args.rows.now k row e)) e)
+returns-clause-names c = spells c.args.rows.now c.loop-row.texts c.requires (λ k row e. c.loop-row.invariant.known_of k row (omega (arith, slice_get_within c.args.rows.now k row e)) e)
 
 pub returns-clause-paths : goal.returns-clause-paths
-returns-clause-paths c = λ k row e. c.loop-row.invariant.known_of k row (omega (arith, get_within c.args.rows.now k row e)) e
+returns-clause-paths c = λ k row e. c.loop-row.invariant.known_of k row (omega (arith, slice_get_within c.args.rows.now k row e)) e

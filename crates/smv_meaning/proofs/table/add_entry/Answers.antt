@@ -1,4 +1,5 @@
 use Rattle.std.proofs.Common.{ℕ, ◌+◌, List, ◌++◌, [], ◌∷◌, Some, Bool, nat_lt, refl, sym, ap, ◌∙◌}
+use Rattle.std.proofs.lemmas.Option.{slice_get_within}
 use Rattle.std.specs.Option.{option_copied}
 use Rattle.smv_meaning.specs.declared.table.Row.{Row}
 use Rattle.smv_meaning.specs.declared.table.Slot.{Slot}
@@ -8,7 +9,7 @@ use Rattle.smv_meaning.specs.Entries.{entry_view, entity_view}
 use Rattle.smv_meaning.specs.Scopes.{entries_in}
 use Rattle.smv_meaning.specs.InstanceTable.{binding_in_row}
 use Rattle.smv_meaning.specs.Paths.{IsInstance}
-use Rattle.smv_meaning.proofs.InstanceTableLemmas.{outer_within, deeper_is, binding_alone, binding_instance, slot_right, child_new, rows_more, get_within}
+use Rattle.smv_meaning.proofs.InstanceTableLemmas.{outer_within, deeper_is, binding_alone, binding_instance, slot_right, child_new, rows_more}
 use Rattle.smv_meaning.proofs.CountLemmas.{inner_none, inner_one}
 use Rattle.smv_meaning.proofs.table.add_entry.Goals as goal
 
@@ -41,7 +42,7 @@ returns-clause-slots c =
     let link : Link = record { outer = c.args.r; name = c.args.entry.name; called = c.in-Some.called } in
     let child : Row = record { link = Some link; names = c.names_in.result; depth = c.args.row.depth + 1 } in
     let slot : Slot = record { row = c.args.r; name = c.args.entry.name; binding = held.Instance c.len-2.result } in
-    let is = binding_instance c.args.program.now c.args.rows.now c.args.r child link c.args.entry.name.now (entity_view c.args.entry.entity) deeper (get_within c.args.rows.now c.args.r c.args.row c.requires.row)
+    let is = binding_instance c.args.program.now c.args.rows.now c.args.r child link c.args.entry.name.now (entity_view c.args.entry.entity) deeper (slice_get_within c.args.rows.now c.args.r c.args.row c.requires.row)
     (deeper_is c.args.program.now c.args.rows.now c.args.r c.args.row c.len.result c.requires.rows c.requires.row c.len.ensures) refl refl refl (sym (ap option_copied c.in-Some.is) ∙ c.called_by.ensures.called) in
     rw c.in_ok-push-3.ensures.ok (slot, c.in_ok-push-2.ensures.ok, slot_right c.args.program.now (c.args.rows.now ++ child ∷ []) c.args.r (entry_view c.args.entry) slot _ refl refl (ap IsInstance c.len-2.ensures) is)
 

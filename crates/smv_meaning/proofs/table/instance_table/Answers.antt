@@ -1,9 +1,10 @@
 use Rattle.std.proofs.Common.{◌≡◌, ℕ, List, [], ◌++◌, ◌∷◌, length, sym, ap, ◌∙◌, subst, arith, refl, Some, None, codes, length-append}
+use Rattle.std.proofs.lemmas.Option.{slice_get_within}
 use Rattle.std.specs.Prelude.{slice_get}
 use Rattle.smv_meaning.specs.declared.table.Row.{Row}
 use Rattle.smv_meaning.specs.Scopes.{entries_in}
 use Rattle.smv_meaning.specs.InstanceTable.{AreSlotsOf, AreSlotsUpTo, row_names, nth_instance, row_instances}
-use Rattle.smv_meaning.proofs.InstanceTableLemmas.{main_new, rows_more, nth_instance_next, kept_instance, get_none, slots_more, extends_length, get_within}
+use Rattle.smv_meaning.proofs.InstanceTableLemmas.{main_new, rows_more, nth_instance_next, kept_instance, get_none, slots_more, extends_length}
 use Rattle.smv_meaning.proofs.CountLemmas.{weight_main, weight_more, weight_none}
 use Rattle.smv_meaning.proofs.table.instance_table.Goals as goal
 
@@ -53,8 +54,8 @@ loop-r-preserved c =
       rows = c.in_ok-expand.ensures.rows;
       main = ap (λ (rows : List Row). nth_instance (row_instances rows) 0) x.1 ∙ (kept_instance c.loop-r.rows x.0 0 c.loop-r.invariant.some ∙ c.loop-r.invariant.main);
       some = omega (arith, extends_length c.loop-r.rows c.expand.new.rows x, c.loop-r.invariant.some);
-      within = omega (arith, extends_length c.loop-r.rows c.expand.new.rows x, get_within c.loop-r.rows c.loop-r.r c.in-Some.row at);
-      weight = weight_more c.args.program.now c.loop-r.rows c.expand.new.rows c.loop-r.r (row_names c.in-Some.row) (get_within c.loop-r.rows c.loop-r.r c.in-Some.row at)
+      within = omega (arith, extends_length c.loop-r.rows c.expand.new.rows x, slice_get_within c.loop-r.rows c.loop-r.r c.in-Some.row at);
+      weight = weight_more c.args.program.now c.loop-r.rows c.expand.new.rows c.loop-r.r (row_names c.in-Some.row) (slice_get_within c.loop-r.rows c.loop-r.r c.in-Some.row at)
           (c.loop-r.invariant.rows c.loop-r.r c.in-Some.row at).names c.in_ok-expand.ensures.inner c.loop-r.invariant.weight;
       count = omega (arith, ap length pushed, length-append c.loop-r.firsts (length c.loop-r.slots ∷ []), count);
       slots = subst (λ (firsts : List ℕ). AreSlotsOf c.args.program.now c.expand.new.rows firsts c.expand.new.slots) (sym pushed)

@@ -1,6 +1,6 @@
 use Rattle.std.proofs.Common.{◌≡◌, map, drop}
 use Rattle.smv_names.specs.Duplicates.{duplicate_among_names, declared_name_view}
-use Rattle.smv_names.specs.Sets.{in_set, no_name}
+use Rattle.smv_meaning.specs.NameSets.{in_set, no_name}
 use Rattle.smv_names.proofs.duplicates.check_declared_names.Given as goal
 
 abbrev pub invariant-loop-one : goal.invariant-loop-one

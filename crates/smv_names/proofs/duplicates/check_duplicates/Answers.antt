@@ -1,6 +1,6 @@
 use Rattle.std.proofs.Common.{◌≡◌, ◌∷◌, ◌+◌, drop, sym, ap, ◌∙◌, subst}
 use Rattle.std.proofs.lemmas.List.{drop_more}
-use Rattle.smv_names.specs.Sets.{in_set}
+use Rattle.smv_meaning.specs.NameSets.{in_set}
 use Rattle.smv_names.specs.Duplicates.{duplicate_among_modules}
 use Rattle.smv_meaning.proofs.FaultLemmas.{reports_err}
 use Rattle.smv_names.proofs.duplicates.check_duplicates.Goals as goal

@@ -1,6 +1,6 @@
 use Rattle.std.proofs.Common.{sym, ap, ◌∙◌}
 use Rattle.std.proofs.lemmas.List.{drop_more}
-use Rattle.smv_names.specs.Sets.{has_number}
+use Rattle.smv_names.specs.NumberSets.{has_number}
 use Rattle.smv_names.specs.Duplicates.{duplicate_among_numbers}
 use Rattle.smv_meaning.proofs.FaultLemmas.{reports_err}
 use Rattle.smv_names.proofs.duplicates.check_numbers.Goals as goal

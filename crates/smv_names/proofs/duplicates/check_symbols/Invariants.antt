@@ -1,6 +1,6 @@
 use Rattle.std.proofs.Common.{◌≡◌, drop}
 use Rattle.smv_names.specs.Duplicates.{duplicate_among_symbols}
-use Rattle.smv_names.specs.Sets.{in_set, no_name}
+use Rattle.smv_meaning.specs.NameSets.{in_set, no_name}
 use Rattle.smv_names.proofs.duplicates.check_symbols.Given as goal
 
 abbrev pub invariant-loop-name : goal.invariant-loop-name

@@ -1,6 +1,6 @@
 use Rattle.std.proofs.Common.{◌≡◌, map, drop}
 use Rattle.smv_names.specs.Duplicates.{declares, declared_name_view}
-use Rattle.smv_names.specs.Sets.{in_set, and_names}
+use Rattle.smv_meaning.specs.NameSets.{in_set, and_names}
 use Rattle.smv_names.proofs.duplicates.declared_of.Given as goal
 
 abbrev pub invariant-loop-one : goal.invariant-loop-one

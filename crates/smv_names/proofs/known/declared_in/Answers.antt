@@ -2,7 +2,7 @@ use Rattle.std.proofs.Common.{ap, ◌∙◌}
 use Rattle.smv_meaning.specs.Entries.{entries_view}
 use Rattle.smv_meaning.specs.Scopes.{entries_in}
 use Rattle.smv_meaning.proofs.InstanceTableLemmas.{entries_named_is}
-use Rattle.smv_names.specs.Sets.{in_set}
+use Rattle.smv_meaning.specs.NameSets.{in_set}
 use Rattle.smv_names.proofs.KnownLemmas.{declared_are}
 use Rattle.smv_names.proofs.known.declared_in.Goals as goal
 

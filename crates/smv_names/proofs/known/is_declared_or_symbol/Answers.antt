@@ -1,6 +1,6 @@
 use Rattle.std.proofs.Common.{sym, ap, ◌∙◌, ◌||◌}
 use Rattle.smv_meaning.specs.Values.{is_symbol}
-use Rattle.smv_names.specs.Sets.{in_set}
+use Rattle.smv_meaning.specs.NameSets.{in_set}
 use Rattle.smv_names.proofs.known.is_declared_or_symbol.Goals as goal
 
 pub returns-else-contains : goal.returns-else-contains

@@ -1,6 +1,6 @@
 use Rattle.std.proofs.Common.{sym, ap, ◌∙◌, ◌||◌, ◌&&◌, arith}
 use Rattle.smv_meaning.specs.Values.{is_symbol}
-use Rattle.smv_names.specs.Sets.{in_set}
+use Rattle.smv_meaning.specs.NameSets.{in_set}
 use Rattle.smv_names.specs.Unknown.{is_resolved_in_each}
 use Rattle.smv_names.proofs.KnownLemmas.{single, longer}
 use Rattle.smv_names.proofs.known.is_resolved.Goals as goal

@@ -1,6 +1,6 @@
 use Rattle.std.proofs.Common.{◌≡◌, map, drop}
 use Rattle.smv_meaning.specs.Entries.{entries_view}
-use Rattle.smv_names.specs.Sets.{in_set, no_name, and_names}
+use Rattle.smv_meaning.specs.NameSets.{in_set, no_name, and_names}
 use Rattle.smv_names.proofs.known.names_of.Given as goal
 
 abbrev pub invariant-loop-entry : goal.invariant-loop-entry

@@ -1,7 +1,7 @@
 use Rattle.std.proofs.Common.{sym, ap, ◌∙◌, Bool, Some, None}
 use Rattle.std.specs.Prelude.{if◌then◌else◌}
 use Rattle.smv_ast.specs.declared.fault.Fault.TheVariants as fault
-use Rattle.smv_names.specs.Sets.{in_set}
+use Rattle.smv_meaning.specs.NameSets.{in_set}
 use Rattle.smv_names.proofs.unknown.unknown_left.Goals as goal
 
 pub returns-then-contains : goal.returns-then-contains

@@ -1,9 +1,9 @@
-use Rattle.std.proofs.Common.{◌≡◌, ◌+◌, ◌∷◌, List, Some, Err, drop, sym, ap, ◌∙◌, subst}
+use Rattle.std.proofs.Common.{◌≡◌, ◌+◌, ◌∷◌, Some, Err, drop, sym, ap, ◌∙◌, subst}
 use Rattle.std.proofs.lemmas.List.{drop_more}
 use Rattle.smv_ast.specs.declared.fault.Fault.{Fault}
 use Rattle.std.specs.Prelude.{Option}
 use Rattle.smv_meaning.specs.Faults.{ReportsFirst}
-use Rattle.smv_meaning.specs.Items.{Item, item_view, items_view}
+use Rattle.smv_meaning.specs.Items.{item_view, items_view}
 use Rattle.smv_meaning.specs.Runs.{or_else}
 use Rattle.smv_meaning.proofs.FaultLemmas.{reported}
 use Rattle.smv_shape.specs.Assigned as spec

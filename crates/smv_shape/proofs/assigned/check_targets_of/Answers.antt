@@ -1,14 +1,14 @@
-use Rattle.std.proofs.Common.{◌≡◌, Bool, List, ℕ, Option, ap, ◌∙◌, subst}
+use Rattle.std.proofs.Common.{◌≡◌, Bool, List, Option, ap, ◌∙◌, subst}
 use mathlib.Core.Path.{fun_ext}
 use Rattle.smv_ast.specs.declared.fault.Fault.{Fault}
 use Rattle.smv_meaning.specs.Entries.{entity_among, entries_view}
 use Rattle.smv_meaning.specs.Faults.{ReportsFirst}
-use Rattle.smv_meaning.specs.Instances.{Entry, entries}
-use Rattle.smv_meaning.specs.Items.{Item, items, items_view}
+use Rattle.smv_meaning.specs.Instances.{Entry}
+use Rattle.smv_meaning.specs.Items.{items, items_view}
 use Rattle.smv_meaning.specs.Runs.{first_fault}
 use Rattle.smv_meaning.specs.Value.{Name}
 use Rattle.smv_shape.specs.Assigned as spec
-use Rattle.smv_shape.specs.Names.{Names, in_set}
+use Rattle.smv_meaning.specs.NameSets.{in_set}
 use Rattle.smv_shape.proofs.assigned.check_targets_of.Goals as goal
 
 pub returns : goal.returns

@@ -1,6 +1,6 @@
 use Rattle.std.proofs.Common.{◌≡◌, List, ℕ, ◌≤◌, length, drop}
 use Rattle.smv_meaning.specs.Entries.{entries_view, entity_among}
-use Rattle.smv_shape.specs.Names.{in_set}
+use Rattle.smv_meaning.specs.NameSets.{in_set}
 use Rattle.smv_shape.specs.Assigned as spec
 use Rattle.smv_shape.proofs.assigned.fixed_names.Given as goal
 

@@ -1,7 +1,8 @@
-use Rattle.std.proofs.Common.{◌≡◌, ◌++◌, ◌∷◌, [], List, ℕ, ap, sym, subst, arith, ◌∙◌}
+use Rattle.std.proofs.Common.{◌≡◌, ◌<◌, ◌++◌, ◌∷◌, [], List, Option, Some, ℕ, length, get_or, ap, sym, subst, arith, ◌∙◌}
 use Rattle.std.specs.Prelude.{All}
 use Rattle.std.proofs.lemmas.List.{length-map}
 use Rattle.std.proofs.lemmas.List.Elements.{All-get_or}
+use Rattle.std.proofs.lemmas.Result.{on_ok_weaker}
 use Rattle.sat_arena.specs.Trails.{IsGrown}
 use Rattle.sat_arena.specs.Stored.{Stored}
 use Rattle.sat_arena.specs.ArenaState.{ArenaState, clauses_of}
@@ -9,9 +10,20 @@ use Rattle.sat_arena.proofs.DeducedLemmas.{stored_at}
 use Rattle.sat_arena.proofs.arena.Arena.copy_to.Goals as goal
 
 pub returns-clause-ok : goal.returns-clause-ok
-returns-clause-ok c d =
-    ap (λ (a : ArenaState). a.stored) c.in_ok-add_watching.ensures.ok
-    ∙ ap (λ (s : Stored). c.args.kept.now.stored ++ s ∷ []) (stored_at c.args.self.now.stored c.args.at d c.clause.result.now c.id.result c.requires.at c.clause.ensures c.id.ensures)
+returns-clause-ok c =
+    let source = c.args.self.now in
+    let old = c.args.kept.now in
+    let added = c.in_ok-position.ensures.ok in
+    on_ok_weaker c.note_move.result (λ noted. record {
+      first = c.watches_or_any-pair.result.first;
+      second = c.watches_or_any-pair.result.second;
+      stored = λ d. ap (λ (a : ArenaState). a.stored) noted ∙ ap (λ (a : ArenaState). a.stored) added
+          ∙ ap (λ (s : Stored). old.stored ++ s ∷ []) (stored_at source.stored c.args.at d c.clause.result.now c.id.result c.requires.at c.clause.ensures c.id.ensures);
+      watched = ap (λ (a : ArenaState). a.watched) noted ∙ ap (λ (a : ArenaState). a.watched) added;
+      moved = ap (λ (a : ArenaState). a.moved) noted ∙ ap (λ (a : ArenaState). a.moved ++ Some c.in_ok-position.position ∷ []) added ∙ ap (λ k. old.moved ++ Some k ∷ []) c.in_ok-position.ensures.position;
+      same_first = λ longer. (c.watches_or_any-pair.ensures.same longer).0;
+      same_second = λ longer. (c.watches_or_any-pair.ensures.same longer).1;
+    }) c.note_move.ensures.ok
 
 pub add_watching-requires-clause-grown : goal.add_watching-requires-clause-grown
 add_watching-requires-clause-grown c =

@@ -25,8 +25,8 @@ returns-in-Some-clause-conflict c =
     subst (λ (s : PropagatorState). IsConflict (clauses_of s.stored) s.entries c.in-Some.position) c.self.view_is (subst (λ (r : Option ℕ). IfSome r (IsConflict (clauses_of p.arena.stored) p.trail.entries)) c.in-Some.is at)
 
 -- a propagator over the arena and the trail that its queue left
-with_arena : (arena : ArenaState) (stored : List Stored) (arena_vars : ℕ) (entries : List Assigned) (vars vars' head : ℕ) (refuted : Option ℕ) → arena ≡ record { stored = stored; vars = arena_vars; watched = arena.watched } → vars' ≡ vars → refuted ≡ None → IsPropagator stored arena.watched arena_vars entries vars head None → IsPropagator arena.stored arena.watched arena.vars entries vars' head refuted
-with_arena arena stored arena_vars entries vars vars' head refuted is same none keeps =
+with_arena : (arena before : ArenaState) (entries : List Assigned) (vars vars' head : ℕ) (refuted : Option ℕ) → arena ≡ record before { watched = arena.watched } → vars' ≡ vars → refuted ≡ None → IsPropagator before.stored arena.watched before.vars entries vars head None → IsPropagator arena.stored arena.watched arena.vars entries vars' head refuted
+with_arena arena before entries vars vars' head refuted is same none keeps =
     subst (λ (r : Option ℕ). IsPropagator arena.stored arena.watched arena.vars entries vars' head r) (sym none)
     (subst (λ (n : ℕ). IsPropagator arena.stored arena.watched arena.vars entries n head None) (sym same)
     (subst (λ (a : ArenaState). IsPropagator a.stored arena.watched a.vars entries vars head None) (sym is) keeps))
@@ -36,7 +36,7 @@ invariant_of-self c =
     let p = c.self.inside in
     let before : IsPropagator p.arena.stored p.arena.watched p.arena.vars p.trail.entries p.trail.vars p.head None
     = subst (λ (r : Option ℕ). IsPropagator p.arena.stored p.arena.watched p.arena.vars p.trail.entries p.trail.vars p.head r) c.in-None.is c.self.invariant in
-    with_arena c.empty_queue-end.new.arena p.arena.stored p.arena.vars c.empty_queue-end.new.trail.entries p.trail.vars c.empty_queue-end.new.trail.vars c.empty_queue-end.result.head p.refuted c.empty_queue-end.ensures.others c.empty_queue-end.ensures.vars c.in-None.is
+    with_arena c.empty_queue-end.new.arena p.arena c.empty_queue-end.new.trail.entries p.trail.vars c.empty_queue-end.new.trail.vars c.empty_queue-end.result.head p.refuted c.empty_queue-end.ensures.others c.empty_queue-end.ensures.vars c.in-None.is
     (IsPropagator-deduced p.arena.stored p.arena.watched c.empty_queue-end.new.arena.watched p.arena.vars p.trail.vars p.head c.empty_queue-end.result.head p.trail.entries c.empty_queue-end.new.trail.entries before c.empty_queue-end.ensures.deduced c.empty_queue-end.ensures.later c.empty_queue-end.ensures.within c.empty_queue-end.ensures.keeps)
 
 if_none : (r : Option ℕ) (P Q : Type 0) → (P → Q) → IfNone r P → IfNone r Q

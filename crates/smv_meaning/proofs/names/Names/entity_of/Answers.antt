@@ -9,7 +9,7 @@ use Rattle.smv_meaning.proofs.names.Names.entity_of.Goals as goal
 pub returns-in-Some-copied : goal.returns-in-Some-copied
 returns-in-Some-copied c =
     let es = c.args.self.now.entries in
-    let at : slice_get es c.in-Some.instance ≡ Some c.in-Some-copied.entry = rw c.as_slice.ensures at (sym c.at.ensures ∙ (sym c.copied.ensures ∙ c.in-Some-copied.is)) in
+    let at : slice_get es c.in-Some.index ≡ Some c.in-Some-copied.entry = rw c.as_slice.ensures at (sym c.at.ensures ∙ (sym c.copied.ensures ∙ c.in-Some-copied.is)) in
     sym (entity_renumbered es c.args.name.now
     ∙ (ap (λ (o : Option ℕ). and_then o (λ k. and_then (slice_get es k) (λ e. Some (entity_view e.entity)))) (sym c.index_of.ensures ∙ c.in-Some.is)
     ∙ ap (λ (o : Option Held). and_then o (λ e. Some (entity_view e.entity))) at))
@@ -17,7 +17,7 @@ returns-in-Some-copied c =
 pub returns-in-None-copied : goal.returns-in-None-copied
 returns-in-None-copied c =
     let es = c.args.self.now.entries in
-    let at : slice_get es c.in-Some.instance ≡ None = rw c.as_slice.ensures at (sym c.at.ensures ∙ (sym c.copied.ensures ∙ c.in-None-copied.is)) in
+    let at : slice_get es c.in-Some.index ≡ None = rw c.as_slice.ensures at (sym c.at.ensures ∙ (sym c.copied.ensures ∙ c.in-None-copied.is)) in
     sym (entity_renumbered es c.args.name.now
     ∙ (ap (λ (o : Option ℕ). and_then o (λ k. and_then (slice_get es k) (λ e. Some (entity_view e.entity)))) (sym c.index_of.ensures ∙ c.in-Some.is)
     ∙ ap (λ (o : Option Held). and_then o (λ e. Some (entity_view e.entity))) at))

@@ -1,8 +1,0 @@
-use Rattle.std.proofs.Common.{◌≡◌, ◌+◌, drop}
-use Rattle.std.specs.Option.{option_map}
-use Rattle.fsmv_top.specs.Lists.{first_index}
-use Rattle.fsmv_top.specs.Impose as spec
-use Rattle.fsmv_top.proofs.integration.impose.index_of_assignment.Given as goal
-
-abbrev pub invariant-loop-i : goal.invariant-loop-i
-invariant-loop-i l = first_index (spec.has_left l.left l.name) l.assignments ≡ option_map (λ k. k + l.i) (first_index (spec.has_left l.left l.name) (drop l.i l.assignments))

@@ -1,6 +1,0 @@
-use Rattle.std.proofs.Common.{ap, ◌∙◌}
-use Rattle.smv_names.specs.Sets.{in_set}
-use Rattle.fsmv_top.proofs.integration.names.declares.Goals as goal
-
-pub returns : goal.returns
-returns c = c.contains.ensures ∙ ap (in_set c.args.module_scope.now.declared.now) c.as_str.ensures ∙ ap (λ has. has c.args.name.now) c.requires.declared

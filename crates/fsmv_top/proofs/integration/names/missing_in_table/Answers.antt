@@ -1,5 +1,0 @@
-use Rattle.smv_meaning.proofs.NumberLemmas.{has_slots}
-use Rattle.fsmv_top.proofs.integration.names.missing_in_table.Goals as goal
-
-pub aliases_of-requires : goal.aliases_of-requires
-aliases_of-requires c = has_slots c.args.program.now c.args.table.now c.requires.right

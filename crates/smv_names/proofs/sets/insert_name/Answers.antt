@@ -1,7 +1,0 @@
-use Rattle.std.proofs.Common.{◌∙◌, ap}
-use Rattle.smv_names.specs.Sets.{in_set, and_name}
-use Rattle.smv_names.proofs.SetLemmas.{in_set_inserted}
-use Rattle.smv_names.proofs.sets.insert_name.Goals as goal
-
-pub returns : goal.returns
-returns c = in_set_inserted c.args.names.now c.insert.new.self c.as_str.result c.in_ok-insert.ensures.updates ∙ ap (and_name (in_set c.args.names.now)) c.as_str.ensures

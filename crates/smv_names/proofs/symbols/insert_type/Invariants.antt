@@ -1,7 +1,0 @@
-use Rattle.std.proofs.Common.{◌≡◌, drop}
-use Rattle.smv_names.specs.Sets.{in_set, and_names}
-use Rattle.smv_names.specs.Unknown.{type_symbols}
-use Rattle.smv_names.proofs.symbols.insert_type.Given as goal
-
-abbrev pub invariant-loop-symbol : goal.invariant-loop-symbol
-invariant-loop-symbol l = and_names (in_set l.names) (drop l.symbol-index l.symbol-items) ≡ and_names (in_set l.fn.names) (type_symbols l.type_)
