@@ -12,6 +12,9 @@ const FM1: &str = "FEATUREMODEL ROOT Base; OPTIONAL Base : Fast; END";
 
 const TWO: &str = "FEATUREMODEL ROOT Base; OPTIONAL Base : A, B; END";
 
+const LARGE: &str =
+    "FEATUREMODEL ROOT Base; OPTIONAL Base : F1, F2, F3, F4, F5, F6, F7, F8, F9, F10, F11, F12, F13, F14, F15, F16, F17, F18, F19, F20, F21, F22, F23, F24, F25, F26, F27, F28, F29, F30, F31, F32, F33, F34, F35, F36, F37, F38, F39, F40, F41, F42, F43, F44, F45, F46, F47, F48, F49, F50, F51, F52, F53, F54, F55, F56, F57, F58, F59, F60, F61, F62, F63, F64; END";
+
 const FAST: &str = "FEATURE Fast CHANGE MODULE main IF x = 2 THEN IMPOSE next(x) := 3; END";
 
 const FASTER: &str =
@@ -190,6 +193,13 @@ fn refuses_files(rt: HostRuntime) -> Result<(), Fail> {
             unended,
             "",
             "refused UnknownFeature 1 33 Core\n",
+        ),
+        (
+            reserved_base,
+            LARGE,
+            unended,
+            "",
+            "refused TooManyFeatures - - 65\n",
         ),
         (reserved_base, FM1, unended, "", "refused Syntax 2 66\n"),
         // names
