@@ -194,13 +194,6 @@ fn refuses_files(rt: HostRuntime) -> Result<(), Fail> {
             "",
             "refused UnknownFeature 1 33 Core\n",
         ),
-        (
-            reserved_base,
-            LARGE,
-            unended,
-            "",
-            "refused TooManyFeatures - - 65\n",
-        ),
         (reserved_base, FM1, unended, "", "refused Syntax 2 66\n"),
         // names
         (
@@ -367,21 +360,36 @@ fn refuses_families(rt: HostRuntime) -> Result<(), Fail> {
     let single = "MODULE main VAR x : boolean;";
     let rows = [
         (
+            TWO,
             introduces,
             uses,
             "Base,B",
             "refused RequireMissing 3 32 B a Base,B\n",
         ),
-        (introduces, again, "Base,B", "refused DuplicateText 3 0 A\n"),
         (
+            TWO,
+            introduces,
+            again,
+            "Base,B",
+            "refused DuplicateText 3 0 A\n",
+        ),
+        (
+            TWO,
             introduces,
             late,
             "Base,A",
             "refused IntroduceClash 2 36 A a\n",
         ),
+        (
+            LARGE,
+            introduces,
+            "",
+            "Base",
+            "refused TooManyFeatures - - 65\n",
+        ),
     ];
-    for (first, second, product, want) in rows {
-        let files = family(rt.alloc(), single, TWO, first, second)?;
+    for (model, first, second, product, want) in rows {
+        let files = family(rt.alloc(), single, model, first, second)?;
         let words = ["weave", "m", "fm", "f", "g", "--product", product];
         let (status, written) = call(rt.alloc(), words.as_slice(), files, 0, 0)?;
         assert_eq!(rt; status, Status::Refused, "{want}");
