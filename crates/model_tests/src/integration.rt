@@ -1,11 +1,10 @@
 //! Features applied to small models, with texts and faults worked out by hand.
 
-use integrate::{integrate_one, integrate_product};
+use integrate::integrate_one;
 use integrate_impose::section_copies::{copy_sections, copy_type};
 use smv_ast::{
-    Action, Change, Declaration, Declared, Expr, Family, Fault, Feature, FeatureModel, GroupKind,
-    Joined, Left, List, ModelLine, Need, Product, Program, Section, SmvType, Span, Text,
-    print_program,
+    Action, Change, Declaration, Declared, Expr, Fault, Feature, Joined, Left, List, Need, Program,
+    Section, Span, Text, print_program,
 };
 use smv_parse::{read_expr, read_program};
 use std::alloc::Global;
@@ -531,120 +530,5 @@ fn faults_of_one_feature(rt: HostRuntime) -> Result<(), Fail> {
             "c"
         )
     );
-    Ok(())
-}
-
-// ---- products of a family
-
-/// Features below a root `Base`, all optional: the first three have a text.
-fn model(alloc: Global) -> Result<FeatureModel, Fault> {
-    let mut names = List::new(alloc);
-    for name in ["Base", "G", "F", "E"].as_slice() {
-        names.push(Text::from_str(alloc, name)?)?;
-    }
-    let mut lines = List::new(alloc);
-    lines.push(ModelLine::Group {
-        kind: GroupKind::Optional,
-        parent: 0,
-        children: List::from_slice(alloc, [1u8, 2, 3].as_slice())?,
-    })?;
-    Ok(FeatureModel { names, lines })
-}
-
-fn product_of(
-    alloc: Global,
-    base: &str,
-    texts: &[FeatureText],
-    bits: u64,
-) -> Result<String, Fault> {
-    let mut features = List::new(alloc);
-    for text in texts {
-        features.push(feature_of(alloc, text)?)?;
-    }
-    let family = Family {
-        base: modules(alloc, 0, base)?,
-        model: model(alloc)?,
-        features,
-    };
-    let applied = integrate_product(alloc, &family, Product { bits })?;
-    Ok(print_program(alloc, &applied)?)
-}
-
-fn is_not_valid(answer: Result<String, Fault>, word: &str) -> bool {
-    match answer {
-        Err(
-            Fault::NotValid {
-                at: None,
-                word: found,
-            },
-        ) => found.is(word),
-        _ => false,
-    }
-}
-
-const STAYS: &str = "MODULE main VAR x : 0..3; ASSIGN init(x) := 0; next(x) := x;";
-
-fn named<'a>(name: &'a str, introduced: &'a str, changes: &'a [ChangeText<'a>]) -> FeatureText<'a> {
-    FeatureText {
-        name,
-        needs: &[],
-        typed: "",
-        introduced,
-        changes,
-    }
-}
-
-#[test]
-fn texts_of_products(rt: HostRuntime) -> Result<(), Fail> {
-    let alloc = rt.alloc();
-    let treats = [("main", "x = 3", "treat", "x", "0")];
-    let imposes = [("main", "x = 0", "next", "x", "3")];
-    // The order of the texts decides, neither that of the names nor that of the model.
-    let treats_first = [named("F", "", &treats), named("E", "", &imposes)];
-    assert!(rt;
-        is_text(
-            product_of(alloc, STAYS, &treats_first, 13),
-            "MODULE main\nVAR\n  x : 0..3;\nASSIGN\n  init(x) := 0;\n  next(x) := case x = 0 : 3; TRUE : case x = 3 : 0; TRUE : x; esac; esac;\n"
-        )
-    );
-    let imposes_first = [named("E", "", &imposes), named("F", "", &treats)];
-    assert!(rt;
-        is_text(
-            product_of(alloc, STAYS, &imposes_first, 13),
-            "MODULE main\nVAR\n  x : 0..3;\nASSIGN\n  init(x) := 0;\n  next(x) := case case x = 3 : 0; TRUE : x; esac = 0 : 3; TRUE : case x = 3 : 0; TRUE : x; esac; esac;\n"
-        )
-    );
-    assert!(rt;
-        is_text(
-            product_of(alloc, STAYS, &imposes_first, 3),
-            "MODULE main\nVAR\n  x : 0..3;\nASSIGN\n  init(x) := 0;\n  next(x) := x;\n"
-        )
-    );
-    // A name of another feature is known in the products that have it.
-    let presence = [
-        named("E", "MODULE main VAR a : boolean;", &[]),
-        named("F", "", &[("main", "a", "next", "x", "0")]),
-    ];
-    assert!(rt; is_missing(product_of(alloc, STAYS, &presence, 5), ("a", 3, 0), 5));
-    assert!(rt; product_of(alloc, STAYS, &presence, 13).is_ok());
-    // Clashes are judged in the whole family: another text, earlier or later, and a type under REQUIRE.
-    let later = [
-        named("F", "MODULE main VAR a : boolean;", &[]),
-        named("E", "MODULE main DEFINE a := x;", &[]),
-    ];
-    assert!(rt; is_clash(product_of(alloc, STAYS, &later, 5), ("a", 2, 16)));
-    let wants = FeatureText {
-        name: "E",
-        needs: &[],
-        typed: "MODULE main VAR x : {a, b};",
-        introduced: "",
-        changes: &[],
-    };
-    let symbols = [named("F", "MODULE main VAR a : boolean;", &[]), wants];
-    assert!(rt; is_clash(product_of(alloc, STAYS, &symbols, 5), ("a", 2, 16)));
-    // Products without the root, and with a feature that there is not.
-    assert!(rt; is_not_valid(product_of(alloc, STAYS, &later, 12), "F,E"));
-    assert!(rt; is_not_valid(product_of(alloc, STAYS, &later, 0), ""));
-    assert!(rt; is_not_valid(product_of(alloc, STAYS, &later, 17), "Base"));
     Ok(())
 }
