@@ -1,0 +1,13 @@
+pub mod LiftNames
+pub mod LiftedBase
+pub mod FirstValues
+pub mod IntroducedVariables
+pub mod GuardedFeature
+pub mod TotalChanges
+pub mod Lift
+pub mod Projection
+pub mod Commutes
+pub mod UsedNames
+pub mod Judgements
+pub mod FeatureJudgements
+pub mod WellFormed
