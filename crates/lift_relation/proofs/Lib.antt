@@ -1,0 +1,13 @@
+pub mod FormLemmas
+pub mod ExprLaw
+pub mod TextInstances
+pub mod BindingLaw
+pub mod ResolutionLaw
+pub mod ValueLaw
+pub mod ConstraintLemmas
+pub mod ItemLemmas
+pub mod VariableLemmas
+pub mod BackLemmas
+pub mod StateLemmas
+pub mod RunsLaw
+pub mod OwnItems
