@@ -2,6 +2,7 @@ pub mod TrailLemmas
 pub mod LevelLemmas
 pub mod SettledLemmas
 pub mod DeducedLemmas
+pub mod ClauseListLemmas
 pub mod NewnessLemmas
 pub mod JustifiedLemmas
 pub mod LinkLemmas

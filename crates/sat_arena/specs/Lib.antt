@@ -3,6 +3,7 @@ pub mod Trails
 pub mod Settled
 pub mod Status
 pub mod Stored
+pub mod ClauseLists
 pub mod ArenaState
 pub mod Deduced
 pub mod Justified

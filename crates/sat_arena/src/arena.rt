@@ -1,5 +1,6 @@
 //! The clauses among which propagation goes on, and which of their literals they watch.
 ghost use Rattle.std.specs.Prelude.{◌≡◌, ℕ, ◌+◌, ◌*◌, ◌<◌, ◌≤◌, ◌^◌, ◌++◌, ◌∷◌, ◌⊎◌, List, [], not, All, Contains, filter, length, max, map, slice_index_or, slice_set, replicate, take, false, vec_len, vec_capacity, IfOk, IfNone, IfSome, OnOk, OnErr};
+ghost use Rattle.sat_lits.specs.Clauses.{HasRisingVariables};
 ghost use Rattle.sat_lits.specs.Steps.{IsFalsified};
 ghost use Rattle.sat_arena.specs.Trails.{true_in, marked, IsGrown};
 ghost use Rattle.sat_arena.specs.ArenaState.{clauses_of, among, is_satisfied, AreGrown, IsUnitOf};
@@ -11,9 +12,10 @@ ghost use Rattle.sat_arena.specs.Reclaimed.{moves, HasCopied, IsCopied, AreCopie
 ghost use Rattle.sat_arena.specs.declared.trail.Assigned.{Assigned};
 ghost use Rattle.sat_arena.specs.Watches.{clause_of, watch_of, may_watch, watches_after, KeepsWatches, AreWatches, AreTwoOf, IsAnyOf, MovesWatch};
 
+use crate::clause_list::ClauseList;
 use crate::falsified::find_in_list;
 use crate::status::{WatchPair, only_or_any};
-use crate::stored::StoredClause;
+use crate::stored::clause_satisfied;
 use crate::trail::Trail;
 use crate::units::find_unit_in_list;
 use crate::visit::{move_to_list, visit_list};
@@ -31,7 +33,7 @@ use std::marker::Model;
 #[derive(Drop)]
 pub struct Arena {
     alloc: Global,
-    clauses: Vec<StoredClause>,
+    clauses: ClauseList,
     watched: Vec<Lit>,
     links: Vec<u32>,
     heads: Vec<u32>,
@@ -46,13 +48,13 @@ impl Model for Arena {
     ghost Value = { ArenaState };
 
     ghost view = { λ a. record {
-      stored = a.clauses.items;
+      stored = a.clauses;
       vars = a.vars;
       watched = a.watched.items;
       moved = a.moved.items;
     } };
 
-    ghost invariant = { λ a. IsArena a.clauses.items a.watched.items a.links.items a.heads.items
+    ghost invariant = { λ a. IsArena a.clauses a.watched.items a.links.items a.heads.items
         a.vars };
 }
 
@@ -63,7 +65,7 @@ impl Arena {
     {
         Arena {
             alloc,
-            clauses: Vec::new(alloc),
+            clauses: ClauseList::new(alloc),
             watched: Vec::new(alloc),
             links: Vec::new(alloc),
             heads: Vec::new(alloc),
@@ -124,16 +126,32 @@ impl Arena {
         }) }
         ensures err { OnErr result (self.new ≡ self.old) }
     {
+        self.add_lits(clause.lits(), id, first, second)
+    }
+
+    /// Adds the clause of these literals after all others, with the two watched, and answers its
+    /// position. After `NoMemory` the arena is unchanged.
+    fn add_lits(&mut self, lits: &[Lit], id: Id, first: Lit, second: Lit) -> Result<u32, NoMemory>
+        requires rising { HasRisingVariables lits.now }
+        requires grown { All (IsGrown self.old.vars) lits.now }
+        requires first { IsAnyOf lits.now first }
+        requires second { IsAnyOf lits.now second }
+        requires two { 1 < length lits.now → AreTwoOf lits.now first second }
+        ensures position { IfOk result (λ position. position ≡ length self.old.stored) }
+        ensures ok { OnOk result (self.new ≡ record self.old {
+          stored = self.old.stored ++ record { clause = lits.now; id = id } ∷ [];
+          watched = (self.old.watched ++ first ∷ []) ++ second ∷ [];
+        }) }
+        ensures err { OnErr result (self.new ≡ self.old) }
+    {
         let position = self.clauses.len();
         if position >= (1 << 31) - 1 {
             return Err(NoMemory);
         }
-        let copy = clause.try_clone(self.alloc)?;
-        self.clauses.reserve(1)?;
         self.watched.reserve(2)?;
         self.links.reserve(2)?;
         lengthen(&mut self.heads, 4)?;
-        self.clauses.push_reserved(StoredClause::new(copy, id));
+        self.clauses.push(lits, id)?;
         let heads = self.heads.as_mut_slice();
         append(&mut self.watched, &mut self.links, heads, first);
         append(&mut self.watched, &mut self.links, heads, second);
@@ -236,15 +254,7 @@ impl Arena {
         requires { at < length self.now.stored }
         ensures { result.now ≡ slice_index_or (clauses_of self.now.stored) at [] }
     {
-        self.clauses[at as usize].lits()
-    }
-
-    /// The clause at the position.
-    fn clause(&self, at: u32) -> &Clause
-        requires { at < length self.now.stored }
-        ensures { result.now ≡ slice_index_or (clauses_of self.now.stored) at [] }
-    {
-        self.clauses[at as usize].clause()
+        self.clauses.lits(at as usize)
     }
 
     /// The two literals that the clause at the position watches. They say nothing of a clause of fewer
@@ -293,7 +303,7 @@ impl Arena {
         ensures { (d : Stored) → result
             ≡ is_satisfied (marked literal_set.now) (slice_index_or self.now.stored at d) }
     {
-        self.clauses[at as usize].is_satisfied(literal_set)
+        clause_satisfied(self.clauses.lits(at as usize), literal_set)
     }
 
     /// Adds the clause at the position to another arena, with what it watches, and notes where it stands
@@ -327,7 +337,8 @@ impl Arena {
     {
         let _count = self.len();
         let pair = self.watches_or_any(at);
-        let position = kept.add_watching(self.clause(at), self.id(at), pair.first, pair.second)?;
+        let lits = self.clauses.lits(at as usize);
+        let position = kept.add_lits(lits, self.id(at), pair.first, pair.second)?;
         kept.note_move(Some(position))
     }
 
@@ -345,7 +356,7 @@ impl Arena {
         requires { at < length self.now.stored }
         ensures { result ≡ slice_index_or (map (λ s. s.id) self.now.stored) at result }
     {
-        self.clauses[at as usize].id()
+        self.clauses.id(at as usize)
     }
 
     /// The position of a clause that watches the literal, and each of whose literals is the negation of one of

@@ -7,7 +7,7 @@ ghost use Rattle.sat_arena.specs.Links.{AreListed};
 ghost use Rattle.sat_arena.specs.Watches.{clause_of, watch_of};
 
 use crate::arena::Arena;
-use crate::stored::StoredClause;
+use crate::clause_list::ClauseList;
 use sat_lits::Lit;
 
 /// The position of the first clause each literal of which is the negation of one of the set. It goes
@@ -30,7 +30,7 @@ pub fn find_falsified(arena: &Arena, literal_set: &[bool]) -> Option<u32>
 
 /// The position of such a clause among those that watch the literal. It goes through the literal's list.
 pub fn find_in_list(
-    clauses: &[StoredClause],
+    clauses: &ClauseList,
     watched: &[Lit],
     links: &[u32],
     heads: &[u32],
@@ -51,7 +51,7 @@ pub fn find_in_list(
     let mut pending = first_of(heads, lit);
     while pending > 0 {
         let watch = pending as usize - 1;
-        if is_falsified(clauses[watch / 2].lits(), literal_set) {
+        if is_falsified(clauses.lits(watch / 2), literal_set) {
             return Some((watch / 2) as u32);
         }
         pending = links[watch];

@@ -2,6 +2,7 @@
 #![tactic(auto)]
 
 mod arena;
+mod clause_list;
 mod falsified;
 mod moved;
 mod propagator;

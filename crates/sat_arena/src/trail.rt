@@ -190,7 +190,7 @@ fn count_up_to(entries: &[Assigned], level: u32) -> usize
     kept
 }
 
-/// Takes the literal_set of the entries from a position on.
+/// Clears the flags of the entries from a position on.
 fn clear(truth: &mut [bool], entries: &[Assigned], from: usize)
     requires start { from ≤ length entries.now }
     requires room { All (λ e. e.lit < length truth.old) entries.now }

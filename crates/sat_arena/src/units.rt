@@ -4,14 +4,14 @@ ghost use Rattle.sat_arena.specs.ArenaState.{clauses_of, IsUnitOf};
 ghost use Rattle.sat_arena.specs.Links.{AreListed};
 ghost use Rattle.sat_arena.specs.Watches.{clause_of, watch_of};
 
+use crate::clause_list::ClauseList;
 use crate::falsified::first_of;
-use crate::stored::StoredClause;
 use sat_lits::Lit;
 
 /// The position of the clause of this literal alone, among those that watch it. It goes through the
 /// literal's list.
 pub fn find_unit_in_list(
-    clauses: &[StoredClause],
+    clauses: &ClauseList,
     watched: &[Lit],
     links: &[u32],
     heads: &[u32],
@@ -30,7 +30,7 @@ pub fn find_unit_in_list(
     let mut pending = first_of(heads, lit);
     while pending > 0 {
         let watch = pending as usize - 1;
-        if is_unit(clauses[watch / 2].lits(), lit) {
+        if is_unit(clauses.lits(watch / 2), lit) {
             return Some((watch / 2) as u32);
         }
         pending = links[watch];

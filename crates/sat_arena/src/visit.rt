@@ -13,15 +13,15 @@ ghost use Rattle.sat_arena.specs.Justified.{IsEntryAt};
 ghost use Rattle.sat_arena.specs.Links.{AreListed, IsListedFrom};
 ghost use Rattle.sat_arena.specs.Watches.{clause_of, watch_of, KeepsWatches, MayWatch};
 
+use crate::clause_list::ClauseList;
 use crate::status::{Choice, choose};
-use crate::stored::StoredClause;
 use crate::trail::{Assigned, Trail};
 use sat_lits::Lit;
 
 /// What the watch is to watch from now on, in place of the literal that the entry made false. It makes
 /// true what the clause forces, and answers `None` where the clause is falsified.
 pub fn visit(
-    clauses: &[StoredClause],
+    clauses: &ClauseList,
     watched: &[Lit],
     watch: usize,
     trail: &mut Trail,
@@ -56,7 +56,7 @@ pub fn visit(
     if trail.has_true(other) {
         return Some(falsified);
     }
-    let lits = clauses[watch / 2].lits();
+    let lits = clauses.lits(watch / 2);
     if lits.len() < 2 {
         return Some(falsified);
     }
@@ -86,7 +86,7 @@ fn other_watch(watch: usize) -> usize
 /// Goes through the list of the literal that the entry made false. Where a clause is falsified, it
 /// answers the position of that one, and the list is whole again.
 pub fn visit_list(
-    clauses: &[StoredClause],
+    clauses: &ClauseList,
     watched: &mut [Lit],
     links: &mut [u32],
     heads: &mut [u32],

@@ -46,24 +46,24 @@ impl Solver {
         self.take_out(&found, units.flags())
     }
 
-    /// Takes out the lines and clauses of two or more literals of which one is among these, the literals of
-    /// unit clauses. Once a clause was refuted, nothing changes.
-    fn take_out(&mut self, root: &[Lit], literal_set: &[bool]) -> Result<(), NoMemory>
+    /// Takes out the lines and clauses of two or more literals of which one is the literal of a unit clause. The
+    /// flags of these are set, by their codes. Once a clause was refuted, nothing changes.
+    fn take_out(&mut self, units: &[Lit], unit_flags: &[bool]) -> Result<(), NoMemory>
         requires solver { IsSolver self.old }
         requires level { current_level self.old.propagator.entries ≡ 0 }
-        requires units { All (IsUnitLine self.old.log.lines) root.now }
-        requires literal_set { (l : ℕ) → marked literal_set.now l ≡ among root.now l }
+        requires units { All (IsUnitLine self.old.log.lines) units.now }
+        requires flags { (l : ℕ) → marked unit_flags.now l ≡ among units.now l }
         ensures vars { self.new.propagator.vars ≡ self.old.propagator.vars }
         ensures solver { OnOk result (IsSolver self.new) }
         ensures ok { OnOk result (RetiresSome self.old.log self.new.log) }
         ensures err { OnErr result (self.new.log ≡ self.old.log) }
     {
         let _lines = self.log.derived();
-        match self.propagator.reclaim(root)? {
+        match self.propagator.reclaim(units)? {
             None => Ok(()),
             Some(_) => {
                 let _entries = self.propagator.entries();
-                retire_lines(&mut self.log, literal_set);
+                retire_lines(&mut self.log, unit_flags);
                 Ok(())
             }
         }

@@ -15,8 +15,8 @@ use sat_analyze::Analyzer;
 use sat_lits::Lit;
 
 impl Solver {
-    /// Searches until there is a model, which then is on the trail, or an answer without one. The
-    /// assumptions' literals are is_set_of.
+    /// Searches until there is a model, which then is on the trail, or an answer without one. The set has a
+    /// flag for each assumption, by its code.
     pub fn run(
         &mut self,
         analyzer: &mut Analyzer,

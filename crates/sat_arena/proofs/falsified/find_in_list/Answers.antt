@@ -7,7 +7,7 @@ use Rattle.sat_arena.specs.Trails.{marked}
 use Rattle.sat_arena.specs.ArenaState.{clauses_of}
 use Rattle.sat_arena.specs.Watches.{clause_of, IsSearching}
 use Rattle.sat_arena.proofs.DeducedLemmas.{clause_at}
-use Rattle.sat_arena.proofs.SearchLemmas.{IsSearching-start, IsSearching-next, IsSearching-end, searching_linked, searching_shorter, read_clause}
+use Rattle.sat_arena.proofs.SearchLemmas.{IsSearching-start, IsSearching-next, IsSearching-end, searching_linked, searching_shorter}
 use Rattle.sat_arena.proofs.falsified.find_in_list.Goals as goal
 
 pub loop-pending-init : goal.loop-pending-init
@@ -19,8 +19,8 @@ pub bounds-links-watch : goal.bounds-links-watch
 bounds-links-watch c =
     searching_linked (clauses_of c.args.clauses.now) c.args.links.now c.args.watched.now (IsFalsified (marked c.args.literal_set.now)) c.args.lit c.loop-pending.pending c.loop-pending.invariant c.loop-pending-test.true
 
-pub bounds-clauses-watch : goal.bounds-clauses-watch
-bounds-clauses-watch c =
+pub lits-requires : goal.lits-requires
+lits-requires c =
     let linked : c.loop-pending.pending - 1 < length c.args.links.now
     = searching_linked (clauses_of c.args.clauses.now) c.args.links.now c.args.watched.now (IsFalsified (marked c.args.literal_set.now)) c.args.lit c.loop-pending.pending c.loop-pending.invariant c.loop-pending-test.true in
     omega (arith, c.requires.listed.long, c.requires.two_each, length-map c.args.clauses.now (λ s. s.clause))
@@ -31,7 +31,7 @@ returns-then-is_falsified-clause-some c =
     = searching_linked (clauses_of c.args.clauses.now) c.args.links.now c.args.watched.now (IsFalsified (marked c.args.literal_set.now)) c.args.lit c.loop-pending.pending c.loop-pending.invariant c.loop-pending-test.true in
     let within : (c.loop-pending.pending - 1) / 2 < length c.args.clauses.now = omega (arith, c.requires.listed.long, c.requires.two_each, length-map c.args.clauses.now (λ s. s.clause)) in (
       within,
-      subst (λ (xs : List ℕ). IsFalsified (marked c.args.literal_set.now) xs) (read_clause c.args.clauses.now c.lits.result.now c.index-clauses-watch.result ((c.loop-pending.pending - 1) / 2) within c.lits.ensures.same c.index-clauses-watch.is)
+      subst (λ (xs : List ℕ). IsFalsified (marked c.args.literal_set.now) xs) c.lits.ensures.same
           (c.is_falsified.ensures.0 c.if-is_falsified.true),
     )
 
@@ -39,10 +39,9 @@ pub loop-pending-preserved : goal.loop-pending-preserved
 loop-pending-preserved c =
     let linked : c.loop-pending.pending - 1 < length c.args.links.now
     = searching_linked (clauses_of c.args.clauses.now) c.args.links.now c.args.watched.now (IsFalsified (marked c.args.literal_set.now)) c.args.lit c.loop-pending.pending c.loop-pending.invariant c.loop-pending-test.true in
-    let within : (c.loop-pending.pending - 1) / 2 < length c.args.clauses.now = omega (arith, c.requires.listed.long, c.requires.two_each, length-map c.args.clauses.now (λ s. s.clause)) in
     IsSearching-next (clauses_of c.args.clauses.now) c.args.links.now c.args.watched.now (IsFalsified (marked c.args.literal_set.now)) c.args.lit c.loop-pending.pending c.loop-pending.invariant c.loop-pending-test.true (λ falsified.
     both_ways c.is_falsified.result c.if-is_falsified.false (c.is_falsified.ensures.1
-    (subst (λ (xs : List ℕ). IsFalsified (marked c.args.literal_set.now) xs) (sym (read_clause c.args.clauses.now c.lits.result.now c.index-clauses-watch.result ((c.loop-pending.pending - 1) / 2) within c.lits.ensures.same c.index-clauses-watch.is)) falsified)))
+    (subst (λ (xs : List ℕ). IsFalsified (marked c.args.literal_set.now) xs) (sym c.lits.ensures.same) falsified)))
 
 pub loop-pending-smaller : goal.loop-pending-smaller
 loop-pending-smaller c =

@@ -5,7 +5,7 @@ use Rattle.sat_arena.specs.Stored.{Stored}
 use Rattle.sat_arena.specs.ArenaState.{clauses_of, IsUnitOf}
 use Rattle.sat_arena.specs.Watches.{clause_of, IsSearching}
 use Rattle.sat_arena.proofs.DeducedLemmas.{clause_at}
-use Rattle.sat_arena.proofs.SearchLemmas.{IsSearching-start, IsSearching-next, IsSearching-end, searching_linked, searching_shorter, read_clause}
+use Rattle.sat_arena.proofs.SearchLemmas.{IsSearching-start, IsSearching-next, IsSearching-end, searching_linked, searching_shorter}
 use Rattle.sat_arena.proofs.units.find_unit_in_list.Goals as goal
 
 pub loop-pending-init : goal.loop-pending-init
@@ -17,8 +17,8 @@ pub bounds-links-watch : goal.bounds-links-watch
 bounds-links-watch c =
     searching_linked (clauses_of c.args.clauses.now) c.args.links.now c.args.watched.now (IsUnitOf c.args.lit) c.args.lit c.loop-pending.pending c.loop-pending.invariant c.loop-pending-test.true
 
-pub bounds-clauses-watch : goal.bounds-clauses-watch
-bounds-clauses-watch c =
+pub lits-requires : goal.lits-requires
+lits-requires c =
     let linked : c.loop-pending.pending - 1 < length c.args.links.now
     = searching_linked (clauses_of c.args.clauses.now) c.args.links.now c.args.watched.now (IsUnitOf c.args.lit) c.args.lit c.loop-pending.pending c.loop-pending.invariant c.loop-pending-test.true in
     omega (arith, c.requires.listed.long, c.requires.two_each, length-map c.args.clauses.now (λ s. s.clause))
@@ -29,7 +29,7 @@ returns-then-is_unit-clause-some c =
     = searching_linked (clauses_of c.args.clauses.now) c.args.links.now c.args.watched.now (IsUnitOf c.args.lit) c.args.lit c.loop-pending.pending c.loop-pending.invariant c.loop-pending-test.true in
     let within : (c.loop-pending.pending - 1) / 2 < length c.args.clauses.now = omega (arith, c.requires.listed.long, c.requires.two_each, length-map c.args.clauses.now (λ s. s.clause)) in (
       within,
-      subst (λ (xs : List ℕ). IsUnitOf c.args.lit xs) (read_clause c.args.clauses.now c.lits.result.now c.index-clauses-watch.result ((c.loop-pending.pending - 1) / 2) within c.lits.ensures.same c.index-clauses-watch.is)
+      subst (λ (xs : List ℕ). IsUnitOf c.args.lit xs) c.lits.ensures.same
           (c.is_unit.ensures.0 c.if-is_unit.true),
     )
 
@@ -37,10 +37,9 @@ pub loop-pending-preserved : goal.loop-pending-preserved
 loop-pending-preserved c =
     let linked : c.loop-pending.pending - 1 < length c.args.links.now
     = searching_linked (clauses_of c.args.clauses.now) c.args.links.now c.args.watched.now (IsUnitOf c.args.lit) c.args.lit c.loop-pending.pending c.loop-pending.invariant c.loop-pending-test.true in
-    let within : (c.loop-pending.pending - 1) / 2 < length c.args.clauses.now = omega (arith, c.requires.listed.long, c.requires.two_each, length-map c.args.clauses.now (λ s. s.clause)) in
     IsSearching-next (clauses_of c.args.clauses.now) c.args.links.now c.args.watched.now (IsUnitOf c.args.lit) c.args.lit c.loop-pending.pending c.loop-pending.invariant c.loop-pending-test.true (λ is_one.
     both_ways c.is_unit.result c.if-is_unit.false (c.is_unit.ensures.1
-    (subst (λ (xs : List ℕ). IsUnitOf c.args.lit xs) (sym (read_clause c.args.clauses.now c.lits.result.now c.index-clauses-watch.result ((c.loop-pending.pending - 1) / 2) within c.lits.ensures.same c.index-clauses-watch.is)) is_one)))
+    (subst (λ (xs : List ℕ). IsUnitOf c.args.lit xs) (sym c.lits.ensures.same) is_one)))
 
 pub loop-pending-smaller : goal.loop-pending-smaller
 loop-pending-smaller c =

@@ -34,31 +34,31 @@ returns-then-has_true-clause-next c more =
     }) more
 
 -- the literals of a clause are grown, as they are read
-grown_at : (stored : List Stored) (lits : List ℕ) (here : Stored) (position vars : ℕ) → position < length stored → lits ≡ here.clause → here ≡ get_or stored position here → AreGrown vars (clauses_of stored) → All (IsGrown vars) lits
-grown_at stored lits here position vars within read at grown =
-    subst (λ (xs : List ℕ). All (IsGrown vars) xs) (clause_at stored position here within ∙ ap (λ s. s.clause) (sym at) ∙ sym read) (grown position [] (omega (arith, within, length-map stored (λ s. s.clause))))
+grown_at : (stored : List Stored) (lits : List ℕ) (position vars : ℕ) → position < length stored → lits ≡ get_or (clauses_of stored) position [] → AreGrown vars (clauses_of stored) → All (IsGrown vars) lits
+grown_at stored lits position vars within read grown =
+    subst (λ (xs : List ℕ). All (IsGrown vars) xs) (sym read) (grown position [] (omega (arith, within, length-map stored (λ s. s.clause))))
 
 pub choose-requires-clause-grown : goal.choose-requires-clause-grown
 choose-requires-clause-grown c =
-    grown_at c.args.clauses.now c.lits-lits.result.now c.index-clauses-watch.result (c.args.watch / 2) c.args.trail.now.vars (omega (arith, c.requires.keeps.two_each, c.requires.watch, length-map c.args.clauses.now (λ s. s.clause))) c.lits-lits.ensures.same c.index-clauses-watch.is c.requires.grown
+    grown_at c.args.clauses.now c.lits-lits.result.now (c.args.watch / 2) c.args.trail.now.vars (omega (arith, c.requires.keeps.two_each, c.requires.watch, length-map c.args.clauses.now (λ s. s.clause))) c.lits-lits.ensures.same c.requires.grown
 
 pub push-requires-clause-grown : goal.push-requires-clause-grown
 push-requires-clause-grown c =
     (All-contains (IsGrown c.args.trail.now.vars) c.lits-lits.result.now c.in-Forcing.lit
-    (grown_at c.args.clauses.now c.lits-lits.result.now c.index-clauses-watch.result (c.args.watch / 2) c.args.trail.now.vars (omega (arith, c.requires.keeps.two_each, c.requires.watch, length-map c.args.clauses.now (λ s. s.clause))) c.lits-lits.ensures.same c.index-clauses-watch.is c.requires.grown)
+    (grown_at c.args.clauses.now c.lits-lits.result.now (c.args.watch / 2) c.args.trail.now.vars (omega (arith, c.requires.keeps.two_each, c.requires.watch, length-map c.args.clauses.now (λ s. s.clause))) c.lits-lits.ensures.same c.requires.grown)
     c.in-Forcing.ensures.holds).1
 
 pub returns-in-Move-clause-grown : goal.returns-in-Move-clause-grown
 returns-in-Move-clause-grown c =
     let grown = All-contains (IsGrown c.args.trail.now.vars) c.lits-lits.result.now c.in-Move.lit
-    (grown_at c.args.clauses.now c.lits-lits.result.now c.index-clauses-watch.result (c.args.watch / 2) c.args.trail.now.vars (omega (arith, c.requires.keeps.two_each, c.requires.watch, length-map c.args.clauses.now (λ s. s.clause))) c.lits-lits.ensures.same c.index-clauses-watch.is c.requires.grown)
+    (grown_at c.args.clauses.now c.lits-lits.result.now (c.args.watch / 2) c.args.trail.now.vars (omega (arith, c.requires.keeps.two_each, c.requires.watch, length-map c.args.clauses.now (λ s. s.clause))) c.lits-lits.ensures.same c.requires.grown)
     c.in-Move.ensures.0 in
     omega (arith, grown.1)
 
 pub choose-requires-clause-holds : goal.choose-requires-clause-holds
 choose-requires-clause-holds c =
     let position : c.args.watch / 2 < length c.args.clauses.now = omega (arith, c.requires.keeps.two_each, c.requires.watch, length-map c.args.clauses.now (λ s. s.clause)) in
-    let lits : c.lits-lits.result.now ≡ clause_of (clauses_of c.args.clauses.now) c.args.watch = c.lits-lits.ensures.same ∙ ap (λ s. s.clause) (get_or_read c.args.clauses.now (c.args.watch / 2) c.index-clauses-watch.result position c.index-clauses-watch.is c.index-clauses-watch.result) ∙ sym (clause_at c.args.clauses.now (c.args.watch / 2) c.index-clauses-watch.result position) in
+    let lits : c.lits-lits.result.now ≡ clause_of (clauses_of c.args.clauses.now) c.args.watch = c.lits-lits.ensures.same in
     let other_within : c.other_watch.result < length c.args.watched.now = omega (arith, c.requires.keeps.two_each, c.requires.watch, c.other_watch.ensures) in
     let other : c.index-watched-other_watch.result ≡ watch_of c.args.watched.now (negation c.args.watch)
     = get_or_read c.args.watched.now c.other_watch.result c.index-watched-other_watch.result other_within c.index-watched-other_watch.is 0 ∙ ap (watch_of c.args.watched.now) c.other_watch.ensures in
@@ -73,7 +73,7 @@ returns-in-Stay-clause-deduced c = nothing
 pub returns-in-Stay-clause-next : goal.returns-in-Stay-clause-next
 returns-in-Stay-clause-next c more =
     let position : c.args.watch / 2 < length c.args.clauses.now = omega (arith, c.requires.keeps.two_each, c.requires.watch, length-map c.args.clauses.now (λ s. s.clause)) in
-    let lits : c.lits-lits.result.now ≡ clause_of (clauses_of c.args.clauses.now) c.args.watch = c.lits-lits.ensures.same ∙ ap (λ s. s.clause) (get_or_read c.args.clauses.now (c.args.watch / 2) c.index-clauses-watch.result position c.index-clauses-watch.is c.index-clauses-watch.result) ∙ sym (clause_at c.args.clauses.now (c.args.watch / 2) c.index-clauses-watch.result position) in
+    let lits : c.lits-lits.result.now ≡ clause_of (clauses_of c.args.clauses.now) c.args.watch = c.lits-lits.ensures.same in
     stay_at c.args.trail.now.entries c.args.head c.args.entry.now (clauses_of c.args.clauses.now) c.args.watched.now c.args.watch c.negate-falsified.result c.requires.keeps c.requires.watch c.requires.watches c.requires.stands c.requires.current_level c.negate-falsified.ensures.negation
     (subst (λ (xs : List ℕ). HasTrue (true_in c.args.trail.now.entries) xs) lits c.in-Stay.ensures) more
 
@@ -83,7 +83,7 @@ returns-in-Move-clause-deduced c = nothing
 pub returns-in-Move-clause-next : goal.returns-in-Move-clause-next
 returns-in-Move-clause-next c more =
     let position : c.args.watch / 2 < length c.args.clauses.now = omega (arith, c.requires.keeps.two_each, c.requires.watch, length-map c.args.clauses.now (λ s. s.clause)) in
-    let lits : c.lits-lits.result.now ≡ clause_of (clauses_of c.args.clauses.now) c.args.watch = c.lits-lits.ensures.same ∙ ap (λ s. s.clause) (get_or_read c.args.clauses.now (c.args.watch / 2) c.index-clauses-watch.result position c.index-clauses-watch.is c.index-clauses-watch.result) ∙ sym (clause_at c.args.clauses.now (c.args.watch / 2) c.index-clauses-watch.result position) in
+    let lits : c.lits-lits.result.now ≡ clause_of (clauses_of c.args.clauses.now) c.args.watch = c.lits-lits.ensures.same in
     let other_within : c.other_watch.result < length c.args.watched.now = omega (arith, c.requires.keeps.two_each, c.requires.watch, c.other_watch.ensures) in
     let other : c.index-watched-other_watch.result ≡ watch_of c.args.watched.now (negation c.args.watch)
     = get_or_read c.args.watched.now c.other_watch.result c.index-watched-other_watch.result other_within c.index-watched-other_watch.is 0 ∙ ap (watch_of c.args.watched.now) c.other_watch.ensures in
@@ -96,7 +96,7 @@ returns-in-Move-clause-next c more =
 pub returns-in-Forcing-clause-deduced : goal.returns-in-Forcing-clause-deduced
 returns-in-Forcing-clause-deduced c =
     let position : c.args.watch / 2 < length c.args.clauses.now = omega (arith, c.requires.keeps.two_each, c.requires.watch, length-map c.args.clauses.now (λ s. s.clause)) in
-    let lits : c.lits-lits.result.now ≡ clause_of (clauses_of c.args.clauses.now) c.args.watch = c.lits-lits.ensures.same ∙ ap (λ s. s.clause) (get_or_read c.args.clauses.now (c.args.watch / 2) c.index-clauses-watch.result position c.index-clauses-watch.is c.index-clauses-watch.result) ∙ sym (clause_at c.args.clauses.now (c.args.watch / 2) c.index-clauses-watch.result position) in
+    let lits : c.lits-lits.result.now ≡ clause_of (clauses_of c.args.clauses.now) c.args.watch = c.lits-lits.ensures.same in
     Deduces-push (clauses_of c.args.clauses.now) c.args.entry.now.level c.args.trail.now.entries c.args.trail.now c.push.new.self _ (c.args.watch / 2) c.push.ensures nothing refl refl (omega (arith, position, length-map c.args.clauses.now (λ s. s.clause)))
     (subst (λ (xs : List ℕ). Forces (true_in c.args.trail.now.entries) xs c.in-Forcing.lit) lits c.in-Forcing.ensures)
 
@@ -108,7 +108,7 @@ returns-in-Forcing-clause-keeps c =
 pub returns-in-Forcing-clause-next : goal.returns-in-Forcing-clause-next
 returns-in-Forcing-clause-next c more =
     let position : c.args.watch / 2 < length c.args.clauses.now = omega (arith, c.requires.keeps.two_each, c.requires.watch, length-map c.args.clauses.now (λ s. s.clause)) in
-    let lits : c.lits-lits.result.now ≡ clause_of (clauses_of c.args.clauses.now) c.args.watch = c.lits-lits.ensures.same ∙ ap (λ s. s.clause) (get_or_read c.args.clauses.now (c.args.watch / 2) c.index-clauses-watch.result position c.index-clauses-watch.is c.index-clauses-watch.result) ∙ sym (clause_at c.args.clauses.now (c.args.watch / 2) c.index-clauses-watch.result position) in
+    let lits : c.lits-lits.result.now ≡ clause_of (clauses_of c.args.clauses.now) c.args.watch = c.lits-lits.ensures.same in
     subst (λ (es : List Assigned). MayWatch es c.args.head (clause_of (clauses_of c.args.clauses.now) c.args.watch) (negation c.args.entry.now.lit) (watch_of c.args.watched.now (negation c.args.watch)) c.negate-falsified.result) (sym (ap (λ t. t.entries) c.push.ensures))
     (stay_forced c.args.trail.now.entries c.args.head c.args.entry.now _ (clauses_of c.args.clauses.now) c.args.watched.now c.args.watch c.negate-falsified.result c.requires.keeps c.requires.watch c.requires.watches c.requires.stands c.requires.current_level c.negate-falsified.ensures.negation refl
     (subst (λ (xs : List ℕ). Contains xs c.in-Forcing.lit) lits c.in-Forcing.ensures.holds) more)
@@ -119,7 +119,7 @@ returns-in-Falsified-clause-deduced c = nothing
 pub returns-in-Falsified-clause-conflict : goal.returns-in-Falsified-clause-conflict
 returns-in-Falsified-clause-conflict c =
     let position : c.args.watch / 2 < length c.args.clauses.now = omega (arith, c.requires.keeps.two_each, c.requires.watch, length-map c.args.clauses.now (λ s. s.clause)) in
-    let lits : c.lits-lits.result.now ≡ clause_of (clauses_of c.args.clauses.now) c.args.watch = c.lits-lits.ensures.same ∙ ap (λ s. s.clause) (get_or_read c.args.clauses.now (c.args.watch / 2) c.index-clauses-watch.result position c.index-clauses-watch.is c.index-clauses-watch.result) ∙ sym (clause_at c.args.clauses.now (c.args.watch / 2) c.index-clauses-watch.result position) in
+    let lits : c.lits-lits.result.now ≡ clause_of (clauses_of c.args.clauses.now) c.args.watch = c.lits-lits.ensures.same in
     (omega (arith, position, length-map c.args.clauses.now (λ s. s.clause)), subst (λ (xs : List ℕ). IsFalsified (true_in c.args.trail.now.entries) xs) lits c.in-Falsified.ensures)
 
 pub returns-then-has_true-clause-held : goal.returns-then-has_true-clause-held
@@ -141,5 +141,5 @@ returns-in-Forcing-clause-held c some =
 pub returns-in-Move-clause-held : goal.returns-in-Move-clause-held
 returns-in-Move-clause-held c some =
     let position : c.args.watch / 2 < length c.args.clauses.now = omega (arith, c.requires.keeps.two_each, c.requires.watch, length-map c.args.clauses.now (λ s. s.clause)) in
-    let lits : c.lits-lits.result.now ≡ clause_of (clauses_of c.args.clauses.now) c.args.watch = c.lits-lits.ensures.same ∙ ap (λ s. s.clause) (get_or_read c.args.clauses.now (c.args.watch / 2) c.index-clauses-watch.result position c.index-clauses-watch.is c.index-clauses-watch.result) ∙ sym (clause_at c.args.clauses.now (c.args.watch / 2) c.index-clauses-watch.result position) in
+    let lits : c.lits-lits.result.now ≡ clause_of (clauses_of c.args.clauses.now) c.args.watch = c.lits-lits.ensures.same in
     subst (λ (xs : List ℕ). Contains xs c.in-Move.lit) lits c.in-Move.ensures.0

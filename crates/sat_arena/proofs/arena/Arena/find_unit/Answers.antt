@@ -10,6 +10,5 @@ pub returns-clause-none : goal.returns-clause-none
 returns-clause-none c =
     let a = c.self.inside in
     subst (λ (s : ArenaState). IfNone c.find_unit_in_list.result (Contains (clauses_of s.stored) (c.args.lit ∷ []) → ⊥)) c.self.view_is
-    (if_none_weaker c.find_unit_in_list.result _ _ (no_unit (clauses_of a.clauses.items) a.watched.items c.args.lit c.self.invariant.watches)
-    (subst (λ (ws : List ℕ). IfNone c.find_unit_in_list.result ((n : ℕ) → n < length ws → watch_of ws n ≡ c.args.lit → IsUnitOf c.args.lit (clause_of (clauses_of a.clauses.items) n) → ⊥)) c.deref-2.ensures.value
-    (subst (λ (cs : List Stored). IfNone c.find_unit_in_list.result ((n : ℕ) → n < length c.deref-2.result.now → watch_of c.deref-2.result.now n ≡ c.args.lit → IsUnitOf c.args.lit (clause_of (clauses_of cs) n) → ⊥)) c.deref.ensures.value c.find_unit_in_list.ensures.none)))
+    (if_none_weaker c.find_unit_in_list.result _ _ (no_unit (clauses_of a.clauses) a.watched.items c.args.lit c.self.invariant.watches)
+    (subst (λ (ws : List ℕ). IfNone c.find_unit_in_list.result ((n : ℕ) → n < length ws → watch_of ws n ≡ c.args.lit → IsUnitOf c.args.lit (clause_of (clauses_of a.clauses) n) → ⊥)) c.deref.ensures.value c.find_unit_in_list.ensures.none))

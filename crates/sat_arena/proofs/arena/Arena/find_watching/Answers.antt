@@ -10,5 +10,4 @@ use Rattle.sat_arena.proofs.arena.Arena.find_watching.Goals as goal
 pub returns-clause-none : goal.returns-clause-none
 returns-clause-none c =
     subst (λ (s : ArenaState). IfNone c.find_in_list.result ((n : ℕ) → n < length s.watched → watch_of s.watched n ≡ c.args.lit → IsFalsified (marked c.args.literal_set.now) (clause_of (clauses_of s.stored) n) → ⊥)) c.self.view_is
-    (subst (λ (ws : List ℕ). IfNone c.find_in_list.result ((n : ℕ) → n < length ws → watch_of ws n ≡ c.args.lit → IsFalsified (marked c.args.literal_set.now) (clause_of (clauses_of c.self.inside.clauses.items) n) → ⊥)) c.deref-2.ensures.value
-    (subst (λ (cs : List Stored). IfNone c.find_in_list.result ((n : ℕ) → n < length c.deref-2.result.now → watch_of c.deref-2.result.now n ≡ c.args.lit → IsFalsified (marked c.args.literal_set.now) (clause_of (clauses_of cs) n) → ⊥)) c.deref.ensures.value c.find_in_list.ensures.none))
+    (subst (λ (ws : List ℕ). IfNone c.find_in_list.result ((n : ℕ) → n < length ws → watch_of ws n ≡ c.args.lit → IsFalsified (marked c.args.literal_set.now) (clause_of (clauses_of c.self.inside.clauses) n) → ⊥)) c.deref.ensures.value c.find_in_list.ensures.none)

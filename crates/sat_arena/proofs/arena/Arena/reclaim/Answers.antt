@@ -38,7 +38,7 @@ returns-clause-count c =
     let keep : Stored → Bool = λ s. not (is_satisfied (marked c.deref.result.now) s) in
     let fewer : length (filter keep c.args.self.now.stored) ≤ length c.args.self.now.stored = length-filter keep c.args.self.now.stored in
     let same : length c.copy_kept.new.kept.stored ≡ length (filter keep c.args.self.now.stored) = ap length c.in_ok-copy_kept.ensures.ok.kept in
-    let held : length c.kept-2.inside.clauses.items ≡ length c.copy_kept.new.kept.stored = ap (λ (a : ArenaState). length a.stored) c.kept-2.view_is in
+    let held : length c.kept-2.inside.clauses ≡ length c.copy_kept.new.kept.stored = ap (λ (a : ArenaState). length a.stored) c.kept-2.view_is in
     omega (arith, c.len-after.ensures.len, c.len-before.ensures.len)
 
 pub returns-clause-moved : goal.returns-clause-moved

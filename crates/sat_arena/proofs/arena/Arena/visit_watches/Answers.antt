@@ -15,10 +15,10 @@ invariant_of-self c =
     let links = c.visit_list.new.links in
     let heads = c.visit_list.new.heads in
     let long : length heads ≡ length a.heads.items = c.visit_list.auto.heads ∙ ap length c.as_mut_slice-3.ensures.value in
-    let keeps = subst (λ (ss : List Stored). KeepsWatches c.visit_list.new.trail.entries c.args.head (clauses_of ss) watched) c.deref.ensures.value c.visit_list.ensures.keeps in
+    let keeps = c.visit_list.ensures.keeps in
     let L : List ℕ = take a.links.len (links ++ drop (length links) a.links.items) in
     let H : List ℕ = take a.heads.len (heads ++ drop (length heads) a.heads.items) in
-    subst (λ (ws : List ℕ). IsArena a.clauses.items ws L H a.vars) (sym (with_items_is a.watched watched (c.visit_list.auto.watched ∙ ap length c.as_mut_slice.ensures.value ∙ sym a.watched.ok.0)))
-    (subst (λ (ls : List ℕ). IsArena a.clauses.items watched ls H a.vars) (sym (with_items_is a.links links (c.visit_list.auto.links ∙ ap length c.as_mut_slice-2.ensures.value ∙ sym a.links.ok.0)))
-    (subst (λ (hs : List ℕ). IsArena a.clauses.items watched links hs a.vars) (sym (with_items_is a.heads heads (long ∙ sym a.heads.ok.0)))
-    (IsArena-visited a.clauses.items c.visit_list.new.trail.entries c.args.head a.watched.items watched a.links.items links a.heads.items heads a.vars c.self.invariant keeps c.visit_list.ensures.listed c.visit_list.ensures.within long)))
+    subst (λ (ws : List ℕ). IsArena a.clauses ws L H a.vars) (sym (with_items_is a.watched watched (c.visit_list.auto.watched ∙ ap length c.as_mut_slice.ensures.value ∙ sym a.watched.ok.0)))
+    (subst (λ (ls : List ℕ). IsArena a.clauses watched ls H a.vars) (sym (with_items_is a.links links (c.visit_list.auto.links ∙ ap length c.as_mut_slice-2.ensures.value ∙ sym a.links.ok.0)))
+    (subst (λ (hs : List ℕ). IsArena a.clauses watched links hs a.vars) (sym (with_items_is a.heads heads (long ∙ sym a.heads.ok.0)))
+    (IsArena-visited a.clauses c.visit_list.new.trail.entries c.args.head a.watched.items watched a.links.items links a.heads.items heads a.vars c.self.invariant keeps c.visit_list.ensures.listed c.visit_list.ensures.within long)))

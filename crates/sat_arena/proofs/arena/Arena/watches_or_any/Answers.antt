@@ -9,10 +9,10 @@ two : (c : goal.After-watches) → 1 < length (get_or (clauses_of c.args.self.no
 two c more =
     let a = c.self.inside in
     let at = c.args.at in
-    let within : at < length a.clauses.items = subst (λ (s : ArenaState). at < length s.stored) (sym c.self.view_is) c.requires in
+    let within : at < length a.clauses = subst (λ (s : ArenaState). at < length s.stored) (sym c.self.view_is) c.requires in
     let pair : AreTwoOf (get_or (clauses_of c.args.self.now.stored) at []) (watch_of c.args.self.now.watched (2 * at)) (watch_of c.args.self.now.watched (2 * at + 1))
     = subst (λ (s : ArenaState). 1 < length (get_or (clauses_of s.stored) at []) → AreTwoOf (get_or (clauses_of s.stored) at []) (watch_of s.watched (2 * at)) (watch_of s.watched (2 * at + 1))) c.self.view_is
-    (two_watched a.clauses.items a.watched.items a.links.items a.heads.items a.vars at c.self.invariant within) more in
+    (two_watched a.clauses a.watched.items a.links.items a.heads.items a.vars at c.self.invariant within) more in
     subst (λ (l : ℕ). AreTwoOf (get_or (clauses_of c.args.self.now.stored) at []) l c.watches.result.second) (sym c.watches.ensures.first)
     (subst (λ (l : ℕ). AreTwoOf (get_or (clauses_of c.args.self.now.stored) at []) (watch_of c.args.self.now.watched (2 * at)) l) (sym c.watches.ensures.second) pair)
 

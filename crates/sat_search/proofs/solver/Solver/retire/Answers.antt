@@ -30,6 +30,6 @@ take_out-requires-clause-units c =
     subst (λ (s : Solver). All (IsUnitLine s.log.lines) c.deref-2.result.now) (sym c.back.ensures.others)
     (subst (λ (us : List ℕ). All (IsUnitLine c.args.self.now.log.lines) us) (sym c.deref-2.ensures.value) c.in_ok-found.ensures)
 
-pub take_out-requires-clause-literal_set : goal.take_out-requires-clause-literal_set
-take_out-requires-clause-literal_set c l =
+pub take_out-requires-clause-flags : goal.take_out-requires-clause-flags
+take_out-requires-clause-flags c l =
     c.flags.ensures l ∙ ap (λ (us : List ℕ). among us l) (c.in_ok-fill.ensures ∙ c.deref.ensures.value ∙ sym c.deref-2.ensures.value)
