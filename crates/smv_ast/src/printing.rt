@@ -3,5 +3,5 @@
 mod expr;
 mod program;
 
-pub use expr::print_joined;
+pub use expr::{print_expr, print_joined};
 pub use program::print_program;

@@ -74,7 +74,8 @@ impl<'a> Item<'a> {
     }
 }
 
-fn push_section<'a>(items: &mut List<Item<'a>>, section: &'a Section) -> Result<(), NoMemory>
+/// Appends the items of a section, in text order. The only error is `NoMemory`.
+pub fn push_section<'a>(items: &mut List<Item<'a>>, section: &'a Section) -> Result<(), NoMemory>
     ensures { OnOk result (spec.items_view items.new ≡ spec.items_view items.old
         ++ spec.section_items section.now) }
 {

@@ -151,7 +151,7 @@ fn print_branches(out: &mut String, branches: &[Branch]) -> Result<(), AllocErro
     Ok(())
 }
 
-/// Appends the canonical text to `out`. The only error is `AllocError`.
+/// Appends the canonical text of an expression to `out`. The only error is `AllocError`.
 #[cycle(print)]
 pub fn print_expr(out: &mut String, e: &Expr) -> Result<(), AllocError>
     ensures { OnOk result (string_bytes out.new ≡ string_bytes out.old ++ spec.printed_expr e.now) }
