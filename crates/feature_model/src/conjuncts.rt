@@ -9,7 +9,7 @@ ghost use Rattle.feature_model.specs.Formula as spec;
 ghost use Rattle.feature_model.specs.Validity.{IsValid};
 ghost use Rattle.feature_model.specs.WellFormed.{IsBelow, IsFeatureModel};
 
-use crate::copies::copy_expr;
+use integrate_impose::copies::copy_expr;
 use smv_ast::{
     Boxed, Expr, FeatureModel, GroupKind, List, ModelLine, NoMemory, Op, Path, Span, Text,
 };

@@ -2,7 +2,6 @@
 #![tactic(auto)]
 
 mod conjuncts;
-mod copies;
 mod finding;
 mod lookahead;
 mod model_reader;

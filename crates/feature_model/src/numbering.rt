@@ -6,10 +6,10 @@ ghost use Rattle.feature_model.specs.Constraints.{feature_of};
 ghost use Rattle.feature_model.specs.ModelOfText as spec;
 ghost use Rattle.feature_model.specs.NameFaults as faults;
 
-use crate::copies::copy_expr;
 use crate::names::check_count;
 use crate::text::{FeatureName, ModelText, TextLine};
 use crate::validity::feature_of;
+use integrate_impose::copies::copy_expr;
 use smv_ast::{Fault, FeatureModel, List, ModelLine, NoMemory, Text};
 use std::alloc::Global;
 

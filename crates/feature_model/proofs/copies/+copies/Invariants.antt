@@ -1,8 +1,0 @@
-use Rattle.std.proofs.Common.{◌≡◌, take}
-use Rattle.feature_model.proofs.copies.+copies.Given as goal
-
-abbrev pub invariant-copy_parts-loop-part : goal.invariant-copy_parts-loop-part
-invariant-copy_parts-loop-part l = l.copy ≡ take l.part-index l.parts
-
-abbrev pub invariant-copy_branches-loop-branch : goal.invariant-copy_branches-loop-branch
-invariant-copy_branches-loop-branch l = l.copy ≡ take l.branch-index l.branches
