@@ -1,0 +1,13 @@
+pub mod BitCircuits
+pub mod Halves
+pub mod NumberLaws
+pub mod MadeLemmas
+pub mod WordLemmas
+pub mod RunLemmas
+pub mod TruthLemmas
+pub mod SpellingLemmas
+pub mod MeaningLemmas
+pub mod Examples
+pub mod WidthLemmas
+pub mod PlaceLemmas
+pub mod PlaceMeaning
