@@ -1,0 +1,10 @@
+pub mod RunLemmas
+pub mod SymbolLemmas
+pub mod KeptLemmas
+pub mod OperatorLemmas
+pub mod ValueLemmas
+pub mod ChoiceLemmas
+pub mod NameLemmas
+pub mod RightLemmas
+pub mod NumberedLemmas
+pub mod DemandLemmas

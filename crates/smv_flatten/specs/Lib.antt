@@ -1,0 +1,9 @@
+pub mod Names
+pub mod Making
+pub mod Groups
+pub mod Variables
+pub mod Invariants
+pub mod Meaning
+pub mod Numbering
+pub mod Numbered
+pub mod Demands
