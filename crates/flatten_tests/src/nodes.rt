@@ -1,9 +1,9 @@
-//! A small lifted model, and its variables and nodes by number.
+//! A small lifted model, and its variables, nodes and specs by number.
 
 use flat_model::FlatNode::{Add, After, Choose, Const, Eq, Le, Lt, Mod, Not, Now, Or};
-use flat_model::{FlatNode, FlatVar, Values};
+use flat_model::{Flat, FlatNode, FlatVar, Values};
 use smv_ast::{Fault, Lifted, List, OwnedSpec, OwnedVar, Program, Text};
-use smv_flatten::{FlatNodes, NumberedModel, number_model};
+use smv_flatten::number_model;
 use smv_parse::read_program;
 use std::alloc::Global;
 use std::test::Fail;
@@ -50,7 +50,7 @@ fn lifted(alloc: Global) -> Result<Lifted, Fault> {
     })
 }
 
-fn numbered(alloc: Global) -> Result<NumberedModel, Fault> {
+fn numbered(alloc: Global) -> Result<Flat, Fault> {
     Ok(number_model(alloc, &lifted(alloc)?)?)
 }
 
@@ -93,20 +93,28 @@ fn the_nodes_of_a_model(rt: HostRuntime) -> Result<(), Fail> {
     let alloc = rt.alloc();
     match numbered(alloc) {
         Ok(model) => {
-            let FlatNodes {
-                nodes,
-                inside,
-                init,
-                step,
-                model,
-                specs,
-            } = model.nodes;
-            assert_eq!(rt; nodes.as_slice(), NODES.as_slice());
-            assert_eq!(rt; inside.as_slice(), [4].as_slice());
-            assert_eq!(rt; init.as_slice(), [7, 8].as_slice());
-            assert_eq!(rt; step.as_slice(), [19, 23].as_slice());
-            assert_eq!(rt; model, 8);
-            assert_eq!(rt; specs.as_slice(), [27].as_slice());
+            assert_eq!(rt; model.nodes.as_slice(), NODES.as_slice());
+            assert_eq!(rt; model.inside.as_slice(), [4].as_slice());
+            assert_eq!(rt; model.init.as_slice(), [7, 8].as_slice());
+            assert_eq!(rt; model.step.as_slice(), [19, 23].as_slice());
+            assert_eq!(rt; model.model, 8);
+        }
+        Err(_) => assert!(rt; false),
+    }
+    Ok(())
+}
+
+#[test]
+fn the_spec_of_a_model(rt: HostRuntime) -> Result<(), Fail> {
+    let alloc = rt.alloc();
+    match numbered(alloc) {
+        Ok(model) => {
+            let specs = model.specs.as_slice();
+            assert_eq!(rt; specs.len(), 1);
+            assert_eq!(rt; specs[0].node, 27);
+            assert_eq!(rt; specs[0].owner, Some(1));
+            assert!(rt; specs[0].instance.as_str() == "main");
+            assert!(rt; specs[0].text.as_str() == "d > 0");
         }
         Err(_) => assert!(rt; false),
     }

@@ -6,5 +6,6 @@ pub mod ValueLemmas
 pub mod ChoiceLemmas
 pub mod NameLemmas
 pub mod RightLemmas
+pub mod SpecLemmas
 pub mod NumberedLemmas
 pub mod DemandLemmas

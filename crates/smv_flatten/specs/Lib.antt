@@ -5,5 +5,6 @@ pub mod Variables
 pub mod Invariants
 pub mod Meaning
 pub mod Numbering
+pub mod SpecTexts
 pub mod Numbered
 pub mod Demands

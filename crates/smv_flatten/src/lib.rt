@@ -11,12 +11,13 @@ mod numbered;
 mod numbering;
 mod operators;
 mod rights;
+mod spec_texts;
 mod store;
 mod symbols;
 mod values;
 mod variables;
 
 pub use names::NameTables;
-pub use numbered::{NumberedModel, number_model};
+pub use numbered::number_model;
 pub use numbering::FlatNodes;
 pub use store::{SharedNodes, Store};

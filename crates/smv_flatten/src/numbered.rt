@@ -1,4 +1,4 @@
-//! A lifted model by numbers: its variables, its symbols and its nodes.
+//! A lifted model by numbers: its variables, its symbols, its nodes and its specs.
 
 ghost use Rattle.std.specs.Prelude.{◌≡◌, true, [], length, map, fold, IfOk};
 ghost use Rattle.smv_meaning.specs.Instances.{instances};
@@ -12,11 +12,12 @@ ghost use Rattle.smv_flatten.specs.Numbered as spec;
 use crate::invariants::specs_of;
 use crate::names::NameTables;
 use crate::numbering::{FlatNodes, number_nodes};
+use crate::spec_texts::flat_specs;
 use crate::symbols::{numbered_symbols, symbol_texts};
 use crate::variables::{
     VariableAt, flat_variables, push_variables, symbolic_flags, variable_numbers,
 };
-use flat_model::FlatVar;
+use flat_model::Flat;
 use smv_ast::{Lifted, List, NoMemory, Text};
 use smv_meaning::aliases::aliases_of;
 use smv_meaning::instance_texts::path_texts;
@@ -25,19 +26,6 @@ use smv_meaning::order::order_of;
 use smv_meaning::scope::scopes_of;
 use smv_meaning::table::{InstanceTable, whole_table};
 use std::alloc::Global;
-
-/// A lifted model by numbers. Variables, symbols and nodes go by their numbers, which begin at 0.
-#[derive(Drop)]
-pub struct NumberedModel {
-    /// How many features there are. They are the first variables.
-    pub features: u32,
-    pub vars: List<FlatVar>,
-    /// The symbols by their numbers.
-    pub symbols: List<Text>,
-    /// For each variable, whether its numbers are those of symbols.
-    pub symbolic: List<bool>,
-    pub nodes: FlatNodes,
-}
 
 /// The variables of the instances of a model in the order of their numbers, and how many of them are
 /// features.
@@ -75,7 +63,7 @@ fn number_over(
     names: &NameTables,
     order: &[usize],
     variables: &Variables,
-) -> Result<NumberedModel, NoMemory>
+) -> Result<Flat, NoMemory>
     requires right { checking.IsTableOfProgram lifted.now.program names.now.table.now }
     requires rows { checking.AreRows names.now.table.now order.now }
     requires all { map variables_spec.variable_view variables.now.all.items
@@ -95,19 +83,38 @@ fn number_over(
         table,
         order,
     )?;
-    let nodes = number_nodes(alloc, names, program, specs.as_slice(), order)?;
+    let FlatNodes {
+        nodes,
+        init,
+        inside,
+        step,
+        model,
+        specs: made,
+    } = number_nodes(alloc, names, program, specs.as_slice(), order)?;
     let texts = path_texts(alloc, table.rows.as_slice())?;
     let all = variables.all.as_slice();
     let owned = lifted.vars.as_slice();
     let vars = flat_variables(alloc, owned, table, texts.as_slice(), names.symbols, all)?;
     let symbolic = symbolic_flags(alloc, all)?;
     let symbols = symbol_texts(alloc, names.symbols)?;
-    Ok(NumberedModel {
+    let specs = flat_specs(
+        alloc,
+        table,
+        texts.as_slice(),
+        specs.as_slice(),
+        made.as_slice(),
+    )?;
+    Ok(Flat {
         features: variables.features,
         vars,
         symbols,
         symbolic,
         nodes,
+        init,
+        inside,
+        step,
+        model,
+        specs,
     })
 }
 
@@ -118,7 +125,7 @@ fn number_names(
     names: &NameTables,
     order: &[usize],
     variables: &Variables,
-) -> Result<NumberedModel, NoMemory>
+) -> Result<Flat, NoMemory>
     requires right { checking.IsTableOfProgram lifted.now.program names.now.table.now }
     requires rows { checking.AreRows names.now.table.now order.now }
     requires order { map (checking.instance_at names.now.table.now) order.now
@@ -138,11 +145,7 @@ fn number_names(
 }
 
 /// The numbers of a model, given its instance table.
-fn number_table(
-    alloc: Global,
-    lifted: &Lifted,
-    table: &InstanceTable,
-) -> Result<NumberedModel, NoMemory>
+fn number_table(alloc: Global, lifted: &Lifted, table: &InstanceTable) -> Result<Flat, NoMemory>
     requires { checking.IsTableOfProgram lifted.now.program table.now }
     ensures { IfOk result (spec.IsNumbered lifted.now) }
 {
@@ -165,8 +168,9 @@ fn number_table(
 /// then those of the other instances; symbols go by their first place in the types of the program.
 /// The nodes are those of the invariants, of the constraints on first states, of those on steps and
 /// of the specs, each group instance by instance in text order. Each has the value of its constraint
-/// or spec, where these can be read as `specs/Demands.antt` says.
-pub fn number_model(alloc: Global, lifted: &Lifted) -> Result<NumberedModel, NoMemory>
+/// or spec, where these can be read as `specs/Demands.antt` says. A spec has the text of its
+/// instance, and the canonical text of its expression without the guard of its feature.
+pub fn number_model(alloc: Global, lifted: &Lifted) -> Result<Flat, NoMemory>
     ensures { IfOk result (spec.IsNumbered lifted.now) }
 {
     let scopes = scopes_of(alloc, &lifted.program)?;
