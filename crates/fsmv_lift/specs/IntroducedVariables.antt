@@ -41,7 +41,11 @@ introduces = flat_map part_introduces
 abbrev pub is_introduced_as : Name → Name → Introduced → Bool
 is_introduced_as called name x = bytes_eq called x.«module» && bytes_eq name x.name
 
+-- the type of the first of these variables that has a name in a module
+abbrev pub type_among : List Introduced → Name → Name → Option SmvType
+type_among variables called name = option_map (λ x. x.type)
+    (find (is_introduced_as called name) variables)
+
 -- the type of an introduced variable; none where these joined parts do not introduce the name
 abbrev pub introduced_type : List Joined → Name → Name → Option SmvType
-introduced_type joins called name = option_map (λ x. x.type)
-    (find (is_introduced_as called name) (introduces joins))
+introduced_type joins = type_among (introduces joins)

@@ -2,9 +2,12 @@ pub mod LiftNames
 pub mod LiftedBase
 pub mod FirstValues
 pub mod IntroducedVariables
+pub mod IntroducedTypes
+pub mod GuardedTypes
 pub mod GuardedFeature
 pub mod TotalChanges
 pub mod Lift
+pub mod Lifting
 pub mod Projection
 pub mod Commutes
 pub mod UsedNames

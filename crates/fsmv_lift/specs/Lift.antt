@@ -10,8 +10,8 @@ use Rattle.smv_ast.specs.declared.syntax.SmvType.TheVariants as type
 use Rattle.smv_ast.specs.declared.syntax.Op.TheVariants as op
 use Rattle.smv_ast.specs.declared.syntax.Expr.{Expr, Expr-F, fold-Expr, roll-Expr}
 use Rattle.smv_ast.specs.declared.syntax.Expr.TheVariants as expr
-use Rattle.smv_ast.specs.declared.syntax.Choice.{Choice, roll-Choice}
-use Rattle.smv_ast.specs.declared.syntax.Branch.{Branch, roll-Branch}
+use Rattle.smv_ast.specs.declared.syntax.Choice.{Choice, fold-Choice, roll-Choice}
+use Rattle.smv_ast.specs.declared.syntax.Branch.{Branch, fold-Branch, roll-Branch}
 use Rattle.smv_ast.specs.declared.program.Declared.TheVariants.{Plain}
 use Rattle.smv_ast.specs.declared.program.Declaration.{Declaration}
 use Rattle.smv_ast.specs.declared.program.Left.TheVariants as left
@@ -50,6 +50,10 @@ after_guarded p f = after_parts p (guarded_parts f) (guarded_changes f)
 abbrev pub guarded_lift : Program → List Feature → Program
 guarded_lift base = fold after_guarded (lifted_base base)
 
+-- a part of one section that the lift adds to a module
+abbrev pub added_part : Name → Section → Joined
+added_part called s = record { «module» = called; sections = s ∷ []; at = added_at }
+
 -- ---- the pins
 
 -- `y = first`
@@ -59,11 +63,8 @@ is_at_first x = expr.Binary op.Eq
 
 -- `INVAR fsmv_fm.F | (y = first);`: without its feature the variable stands at its first value
 abbrev pub pin : Name → Introduced → Joined
-pin feature x = record {
-  «module» = x.«module»;
-  sections = section.Invar (expr.Binary op.Or (guard feature) (is_at_first x)) added_at ∷ [];
-  at = added_at;
-}
+pin feature x = added_part x.«module»
+    (section.Invar (expr.Binary op.Or (guard feature) (is_at_first x)) added_at)
 
 -- the pins of the variables that a feature introduces
 abbrev pub pins_of : Feature → List Joined
@@ -75,22 +76,31 @@ pins = flat_map pins_of
 
 -- ---- the formula
 
+-- the path of a feature's variable
+abbrev pub lifted_path : Path → Path
+lifted_path path = record path { names = features_instance ∷ path.names }
+
 -- a layer of the formula, in the lift: a feature's name is the path of its variable
 abbrev pub lifted_layer : Expr-F Choice Expr Branch → Expr
-lifted_layer (Expr-F.Name path) = expr.Name (record path { names = features_instance ∷ path.names })
+lifted_layer (Expr-F.Name path) = expr.Name (lifted_path path)
 lifted_layer e = roll-Expr e
 
 -- a constraint on features, over their variables in the lift
 abbrev pub lifted_constraint : Expr → Expr
 lifted_constraint = fold-Expr Choice Expr Branch roll-Choice lifted_layer roll-Branch
 
+-- a set of values over the features' variables
+abbrev pub lifted_choice : Choice → Choice
+lifted_choice = fold-Choice Choice Expr Branch roll-Choice lifted_layer roll-Branch
+
+-- a branch over the features' variables
+abbrev pub lifted_branch : Branch → Branch
+lifted_branch = fold-Branch Choice Expr Branch roll-Choice lifted_layer roll-Branch
+
 -- `INIT formula;` at the end of `main`
 abbrev pub formula_part : FeatureModel → Joined
-formula_part model = record {
-  «module» = codes "main";
-  sections = section.Init (lifted_constraint (formula_of model)) added_at ∷ [];
-  at = added_at;
-}
+formula_part model = added_part (codes "main")
+    (section.Init (lifted_constraint (formula_of model)) added_at)
 
 -- ---- the module of the features' variables
 
@@ -124,11 +134,15 @@ module_of_features names = record {
 abbrev pub with_module : Program → Module → Program
 with_module p m = record p { modules = p.modules ++ m ∷ [] }
 
+-- the model of the lift, from that with all features
+abbrev pub finished_program : Family → Program → Program
+finished_program family p = with_module
+    (with_part (joined p (pins family.features)) (formula_part family.model))
+    (module_of_features family.model.names)
+
 -- the model of the lift
 abbrev pub lift_program : Family → Program
-lift_program family = with_module
-    (with_part (joined (guarded_lift family.base family.features) (pins family.features))
-    (formula_part family.model)) (module_of_features family.model.names)
+lift_program family = finished_program family (guarded_lift family.base family.features)
 
 -- ---- the owners of what features introduce
 
@@ -140,46 +154,68 @@ number_of names f = elim (feature_of names f.name) [ None ↦ 0 | Some n ↦ n ]
 abbrev pub owned_variable : ℕ → Introduced → OwnedVar
 owned_variable feature x = record { «module» = x.«module»; name = x.name; feature = feature }
 
+-- the variables of a feature, by declarations in order
+abbrev pub variables_of : List Name → Feature → List OwnedVar
+variables_of names f = map (owned_variable (number_of names f)) (introduces f.joins)
+
 -- the introduced variables with their features, by features and then by declarations in order
 abbrev pub owned_variables : List Name → List Feature → List OwnedVar
-owned_variables names = flat_map (λ f. map (owned_variable (number_of names f)) (introduces f.joins))
+owned_variables names = flat_map (variables_of names)
 
 -- whether a section is a spec
 abbrev pub is_spec : Section → Bool
 is_spec (section.InvarSpec e at) = true
 is_spec s = false
 
+-- the spec of a section of a module
+abbrev pub owned_spec : ℕ → Name → ℕ → OwnedSpec
+owned_spec feature called n = record { «module» = called; «section» = n; feature = feature }
+
+-- the spec of a section, if it is one
+abbrev pub spec_at : ℕ → Name → ℕ → Section → List OwnedSpec
+spec_at feature called n s = if is_spec s then owned_spec feature called n ∷ [] else []
+
 -- the specs among sections that are appended to a module, by the numbers of their sections, the
 -- first of which is given
 abbrev pub specs_from : ℕ → Name → ℕ → List Section → List OwnedSpec
 specs_from feature called n [] = []
-specs_from feature called n (s ∷ more) =
-    if is_spec s then record { «module» = called; «section» = n; feature = feature }
-    ∷ specs_from feature called (n + 1) more else specs_from feature called (n + 1) more
+specs_from feature called n (s ∷ more) = spec_at feature called n s
+    ++ specs_from feature called (n + 1) more
 
 -- the number of sections of the first module of a name
 abbrev pub section_count : Program → Name → ℕ
 section_count p called = elim (find (is_named called) p.modules)
     [ None ↦ 0 | Some m ↦ length m.sections ]
 
+-- the specs of a joined part that is appended to a model
+abbrev pub specs_of_part : ℕ → Program → Joined → List OwnedSpec
+specs_of_part feature p part = specs_from feature part.«module»
+    (section_count p part.«module») part.sections
+
 -- the specs of joined parts that are appended to a model one after another
 abbrev pub specs_of_parts : ℕ → Program → List Joined → List OwnedSpec
 specs_of_parts feature p [] = []
-specs_of_parts feature p (part ∷ more) =
-    specs_from feature part.«module» (section_count p part.«module») part.sections
+specs_of_parts feature p (part ∷ more) = specs_of_part feature p part
     ++ specs_of_parts feature (with_part p part) more
+
+-- the specs of a feature, in written order, where it is applied to this model
+abbrev pub specs_of : List Name → Program → Feature → List OwnedSpec
+specs_of names p f = specs_of_parts (number_of names f) p (guarded_parts f)
 
 -- the introduced specs with their features, by features and then in written order, where the
 -- features are applied to this model one after another
 abbrev pub owned_specs : List Name → Program → List Feature → List OwnedSpec
 owned_specs names p [] = []
-owned_specs names p (f ∷ more) = specs_of_parts (number_of names f) p (guarded_parts f)
-    ++ owned_specs names (after_guarded p f) more
+owned_specs names p (f ∷ more) = specs_of names p f ++ owned_specs names (after_guarded p f) more
 
--- the lift of a family
-abbrev pub lift_of : Family → Lifted
-lift_of family = record {
-  program = lift_program family;
+-- the lift, from the model with all features
+abbrev pub finished : Family → Program → Lifted
+finished family p = record {
+  program = finished_program family p;
   vars = owned_variables family.model.names family.features;
   specs = owned_specs family.model.names (lifted_base family.base) family.features;
 }
+
+-- the lift of a family
+abbrev pub lift_of : Family → Lifted
+lift_of family = finished family (guarded_lift family.base family.features)
