@@ -1,4 +1,4 @@
-ghost use Rattle.std.specs.Prelude.{◌≡◌, ◌≤◌, ◌<◌, ◌^◌, All, IfOk, IsTrue};
+ghost use Rattle.std.specs.Prelude.{◌≡◌, ◌≤◌, All, IfOk, IsTrue};
 ghost use Rattle.sat_arena.specs.Trails.{IsGrown};
 
 use fsmv_base::Id;
@@ -146,28 +146,6 @@ fn implications(alloc: Global) -> Result<Session, Fail>
     Ok(session)
 }
 
-/// How many lines had been derived when the line of this number was retired, and the line that holds in its
-/// place. `None` and 0 where there is no such line.
-fn retirement(session: &Session, number: u32) -> (Option<u32>, u32) {
-    let log = session.log();
-    if number == 0 || number > log.derived() {
-        return (None, 0);
-    }
-    (log.retired(number), log.standing(number))
-}
-
-/// Adds that each variable implies the next, up to the last one.
-fn add_chain(alloc: Global, session: &mut Session, vars: u32) -> Result<(), Fail>
-    requires small { vars < 2 ^ 30 }
-    requires grown { vars ≤ session.old.vars }
-    ensures { session.new.vars ≡ session.old.vars }
-{
-    for var in 1..vars {
-        add(alloc, session, vars, &[-(var as i32), var as i32 + 1])?;
-    }
-    Ok(())
-}
-
 #[test]
 fn assumptions_give_models_and_cores(rt: HostRuntime) -> Result<(), Fail> {
     let alloc = rt.alloc();
@@ -204,38 +182,6 @@ fn later_axioms_count(rt: HostRuntime) -> Result<(), Fail> {
     expect_value(alloc, &mut session, &[], 1, false)?;
     let fourth = Answer::Core { id: Id::Axiom(4) };
     expect(alloc, &mut session, 4, &[-4], 9, (fourth, 0))?;
-    Ok(())
-}
-
-#[test]
-fn a_line_is_retired_once_a_unit_clause_satisfies_it(rt: HostRuntime) -> Result<(), Fail> {
-    let alloc = rt.alloc();
-    let mut session = implications(alloc)?;
-    expect(alloc, &mut session, 4, &[1, 4], 9, (core(1), 1))?;
-
-    // The negation of 1 becomes a unit clause; the next search retires the line that holds it.
-    add_pairs(alloc, &mut session, 4, &[[-1, 4]])?;
-    expect(alloc, &mut session, 4, &[1], 9, (core(2), 2))?;
-    assert_eq!(rt; retirement(&session, 1), (None, 1));
-    expect_value(alloc, &mut session, &[2], 1, false)?;
-    assert_eq!(rt; retirement(&session, 1), (Some(2), 2));
-    assert_eq!(rt; retirement(&session, 2), (None, 2));
-    Ok(())
-}
-
-#[test]
-fn two_thousand_clauses(rt: HostRuntime) -> Result<(), Fail> {
-    let alloc = rt.alloc();
-    let mut session = Session::new(alloc);
-    session.grow(2001)?;
-    add_chain(alloc, &mut session, 2001)?;
-    expect_value(alloc, &mut session, &[1], 2001, true)?;
-
-    // The ends of the chain exclude each other, and so the first variable is false once the last one is.
-    expect(alloc, &mut session, 2001, &[1, -2001], 9, (core(1), 1))?;
-    add(alloc, &mut session, 2001, &[-2001])?;
-    expect(alloc, &mut session, 2001, &[1], 9, (core(2), 2))?;
-    expect_value(alloc, &mut session, &[], 1000, false)?;
     Ok(())
 }
 
